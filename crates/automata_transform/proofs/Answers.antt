@@ -1,3 +1,4 @@
 pub mod Anchored
 pub mod Carried
+pub mod Flattened
 pub mod Merged

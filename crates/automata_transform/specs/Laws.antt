@@ -1,2 +1,3 @@
 pub mod AnchoredStarts
+pub mod FlattenedChains
 pub mod MergedUnions

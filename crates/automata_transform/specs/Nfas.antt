@@ -1,4 +1,5 @@
 pub mod AnchoredNfas
+pub mod FlattenedNfas
 pub mod Merges
 pub mod MergedNfas
 pub mod Mirrors

@@ -3,3 +3,4 @@ pub mod Copies
 pub mod DenseRuns
 pub mod Folds
 pub mod Segments
+pub mod Links

@@ -1,6 +1,7 @@
-//! Copies of the reversed states: for each pattern, a copy of those that are reached from its match states.
+//! Copies of the reversed states: for each pattern, a copy of those that are reached from its match states. For the last
+//! pattern, the states themselves become the copies.
 ghost use Rattle.std.specs.Prelude.{ℕ, ◌≡◌, ◌<◌, ◌≤◌, ◌+◌, ◌*◌, ◌^◌, ◌++◌, [], ◌∷◌, true, map, length};
-ghost use Rattle.std.specs.Prelude.{IfOk, OnOk, Err, None, Some};
+ghost use Rattle.std.specs.Prelude.{IfOk, OnOk, Err, None, Some, false, slice_index_or};
 ghost use Rattle.automata_transform.specs.Retraced.Copies.{AreCopyable, AreParts, IsPartAdded};
 ghost use Rattle.automata_base.specs.Lists.{In, all_below, Distinct};
 ghost use Rattle.automata_base.specs.Nfas.Nodes.{node_of, nodes_of};
@@ -19,6 +20,7 @@ use automata_base::util::id_lists::{no_lists, push_at};
 use automata_base::util::primitives::{PatternID, StateID};
 use automata_base::util::sparse_set::SparseSet;
 use std::alloc::{AllocError, Global};
+use std::mem;
 
 /// Returns the ID of a member's copy, if the copies of the set's members begin at `base`.
 fn copy_id(set: &SparseSet, base: StateID, id: StateID) -> StateID
@@ -48,7 +50,7 @@ fn copy_ids(
     requires room { base + length set.now.items ≤ 2 ^ 27 }
     ensures { IfOk result (λ v. v.items ≡ map (copy_of base set.now.items) ids.now) }
 {
-    let mut copies = Vec::new(alloc);
+    let mut copies = Vec::with_capacity(alloc, ids.len())?;
     for id in ids {
         let copy = copy_id(set, base, *id);
         push_id(&mut copies, copy)?;
@@ -110,6 +112,116 @@ fn copy_all(
     for id in members {
         let copy = copy_state(alloc, set, base, pattern, &turned[id.as_usize()])?;
         push_state(out, copy)?;
+    }
+    Ok(())
+}
+
+/// Replaces the IDs of members by those of their copies, if the copies of the set's members begin at `base`.
+fn renumber(set: &SparseSet, base: StateID, ids: &mut [StateID])
+    requires members { (q : ℕ) → In q ids.old → In q set.now.items }
+    requires room { base + length set.now.items ≤ 2 ^ 27 }
+    ensures { ids.new ≡ map (copy_of base set.now.items) ids.old }
+{
+    for id in ids.iter_mut() {
+        *id = copy_id(set, base, *id);
+    }
+}
+
+/// Makes a reversed state its own copy for a pattern.
+fn become_copy(set: &SparseSet, base: StateID, pattern: PatternID, state: &mut State)
+    requires members { (q : ℕ) → In q (targets_at Edges.Every (node_of state.old)) → In q set.now.items }
+    requires room { base + length set.now.items ≤ 2 ^ 27 }
+    ensures { node_of state.new ≡ copied (copy_of base set.now.items) pattern state.old }
+{
+    match state {
+        State::ByteRange { next, .. } => *next = copy_id(set, base, *next),
+        State::Look { next, .. } => *next = copy_id(set, base, *next),
+        State::Union { alternates } => renumber(set, base, alternates.as_mut_slice()),
+        State::Match { pattern: matched } => *matched = pattern,
+        _ => *state = State::Fail,
+    }
+}
+
+/// Takes a reversed state and makes it its own copy for a pattern. A fail state takes its place.
+fn take_copy(
+    set: &SparseSet,
+    base: StateID,
+    pattern: PatternID,
+    turned: &mut Vec<State>,
+    at: usize,
+) -> State
+    requires inside { at < length turned.old.items }
+    requires members { (q : ℕ) → In q (targets_at Edges.Every (node_of (slice_index_or turned.old.items at State.Fail)))
+        → In q set.now.items }
+    requires room { base + length set.now.items ≤ 2 ^ 27 }
+    ensures copy { node_of result ≡ copied (copy_of base set.now.items) pattern
+        (slice_index_or turned.old.items at State.Fail) }
+    ensures others { (q : ℕ) → (q ≡ at → ⊥) → slice_index_or turned.new.items q State.Fail
+        ≡ slice_index_or turned.old.items q State.Fail }
+    ensures same { length turned.new.items ≡ length turned.old.items }
+{
+    let mut state = mem::replace(&mut turned[at], State::Fail);
+    become_copy(set, base, pattern, &mut state);
+    state
+}
+
+/// Does what `copy_all` does, but takes the states to make the copies of them.
+fn take_all(
+    set: &SparseSet,
+    base: StateID,
+    pattern: PatternID,
+    turned: &mut Vec<State>,
+    out: &mut Vec<State>,
+) -> Result<(), AllocError>
+    requires whole { set.now.capacity ≡ length turned.old.items }
+    requires room { base + length set.now.items ≤ 2 ^ 27 }
+    requires closed { (x q : ℕ) → In x set.now.items → In q (targets_of Edges.Every turned.old.items x)
+        → In q set.now.items }
+    ensures { OnOk result (nodes_of out.new.items ≡ nodes_of out.old.items
+        ++ copies (copy_of base set.now.items) pattern turned.old.items set.now.items) }
+{
+    let members = set.as_slice();
+    for id in members {
+        let copy = take_copy(set, base, pattern, turned, id.as_usize());
+        push_state(out, copy)?;
+    }
+    Ok(())
+}
+
+/// Reserves room for the copies of a set's members, for the entry after them, and for the root.
+fn reserve_copies(set: &SparseSet, out: &mut Vec<State>) -> Result<(), AllocError>
+    requires { set.now.capacity ≤ 2 ^ 27 }
+    ensures { OnOk result (out.new.items ≡ out.old.items) }
+{
+    out.reserve(set.as_slice().len() + 2)?;
+    Ok(())
+}
+
+/// Appends the copies of a set's members for a pattern, in their order. The first copy has the ID `base`. For the last
+/// pattern, the states themselves become the copies.
+fn add_copies(
+    alloc: Global,
+    set: &SparseSet,
+    base: StateID,
+    pattern: PatternID,
+    last: bool,
+    turned: &mut Vec<State>,
+    out: &mut Vec<State>,
+) -> Result<(), AllocError>
+    requires few { length turned.old.items ≤ 2 ^ 27 }
+    requires whole { set.now.capacity ≡ length turned.old.items }
+    requires room { base + length set.now.items ≤ 2 ^ 27 }
+    requires closed { (x q : ℕ) → In x set.now.items → In q (targets_of Edges.Every turned.old.items x)
+        → In q set.now.items }
+    ensures copied { OnOk result (nodes_of out.new.items ≡ nodes_of out.old.items
+        ++ copies (copy_of base set.now.items) pattern turned.old.items set.now.items) }
+    ensures kept { OnOk result (last ≡ false → turned.new.items ≡ turned.old.items) }
+{
+    reserve_copies(set, out)?;
+    if last {
+        take_all(set, base, pattern, turned, out)?;
+    } else {
+        copy_all(alloc, set, base, pattern, turned.as_slice(), out)?;
     }
     Ok(())
 }
@@ -179,30 +291,33 @@ fn base_of(states: &[State], set: &SparseSet) -> Option<StateID>
 }
 
 /// Adds the copies, for a pattern, of the states that are reached from its roots, and after them its entry: the union
-/// of the roots' copies. The call overwrites the set.
+/// of the roots' copies. The call overwrites the set, and for the last pattern the states.
 fn add_part(
     alloc: Global,
-    turned: &[State],
+    turned: &mut Vec<State>,
     roots: &[StateID],
     set: &mut SparseSet,
     pattern: PatternID,
+    last: bool,
     parts: &mut Parts,
 ) -> Result<(), MakeError>
-    requires few { length turned.now ≤ 2 ^ 27 }
-    requires range { states_below (length turned.now) turned.now ≡ true }
-    requires roots { all_below (length turned.now) roots.now ≡ true }
-    requires capacity { set.old.capacity ≡ length turned.now }
+    requires few { length turned.old.items ≤ 2 ^ 27 }
+    requires range { states_below (length turned.old.items) turned.old.items ≡ true }
+    requires roots { all_below (length turned.old.items) roots.now ≡ true }
+    requires capacity { set.old.capacity ≡ length turned.old.items }
     ensures part { OnOk result ((entry : ℕ) × (parts.new.entries.items ≡ parts.old.entries.items ++ entry ∷ [])
         × IsPartAdded (nodes_of parts.old.states.items) (nodes_of parts.new.states.items)
-        turned.now roots.now pattern entry) }
-    ensures capacity { set.new.capacity ≡ length turned.now }
-    ensures large { result ≡ Err MakeError.TooLarge → 2 ^ 27 < length parts.old.states.items + length turned.now + 1 }
+        turned.old.items roots.now pattern entry) }
+    ensures kept { OnOk result (last ≡ false → turned.new.items ≡ turned.old.items) }
+    ensures capacity { set.new.capacity ≡ length turned.old.items }
+    ensures large { result ≡ Err MakeError.TooLarge
+        → 2 ^ 27 < length parts.old.states.items + length turned.old.items + 1 }
 {
-    walk(set, turned, roots, Edges::Every);
+    walk(set, turned.as_slice(), roots, Edges::Every);
     let Some(base) = base_of(&parts.states, set) else {
         return Err(MakeError::TooLarge);
     };
-    copy_all(alloc, set, base, pattern, turned, &mut parts.states)?;
+    add_copies(alloc, set, base, pattern, last, turned, &mut parts.states)?;
     let entry = StateID::new_unchecked(parts.states.len() as u32);
     let alternates = copy_ids(alloc, set, base, roots)?;
     push_state(&mut parts.states, State::Union { alternates })?;
@@ -210,24 +325,25 @@ fn add_part(
     Ok(())
 }
 
-/// Copies, for each pattern, what is reached in the reversed states from the pattern's match states.
+/// Copies, for each pattern, what is reached in the reversed states from the pattern's match states. The call
+/// overwrites the reversed states, since they become the copies for the last pattern.
 pub fn parts_of(
     alloc: Global,
     states: &[State],
-    turned: &[State],
+    turned: &mut Vec<State>,
     reached: &[StateID],
     patterns: usize,
 ) -> Result<Parts, MakeError>
-    requires few { length turned.now ≤ 2 ^ 27 }
-    requires turned { AreCopyable states.now turned.now }
+    requires few { length turned.old.items ≤ 2 ^ 27 }
+    requires turned { AreCopyable states.now turned.old.items }
     requires below { all_below (length states.now) reached.now ≡ true }
     requires patterns { patterns ≤ 2 ^ 27 }
     ensures copies { IfOk result (λ parts.
-        HaveCopies (nodes_of parts.states.items) states.now turned.now reached.now parts.entries.items) }
+        HaveCopies (nodes_of parts.states.items) states.now turned.old.items reached.now parts.entries.items) }
     ensures count { IfOk result (λ parts. length parts.entries.items ≡ patterns) }
     ensures fit { IfOk result (λ parts. AreParts
-        turned.now (length reached.now) patterns patterns (nodes_of parts.states.items) parts.entries.items) }
-    ensures large { result ≡ Err MakeError.TooLarge → 2 ^ 27 < patterns * (length turned.now + 1) }
+        turned.old.items (length reached.now) patterns patterns (nodes_of parts.states.items) parts.entries.items) }
+    ensures large { result ≡ Err MakeError.TooLarge → 2 ^ 27 < patterns * (length turned.old.items + 1) }
 {
     let mut set = SparseSet::new(alloc, turned.len() as u32)?;
     let mut parts = Parts {
@@ -238,7 +354,8 @@ pub fn parts_of(
     for p in 0..patterns {
         let pattern = PatternID::new_unchecked(p as u32);
         let roots = &matches[p];
-        add_part(alloc, turned, roots, &mut set, pattern, &mut parts)?;
+        let last = p + 1 == patterns;
+        add_part(alloc, turned, roots, &mut set, pattern, last, &mut parts)?;
     }
     Ok(parts)
 }

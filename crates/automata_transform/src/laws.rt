@@ -1,6 +1,8 @@
-//! Laws about reversed, merged and anchored NFAs. Each function does nothing: its contract is the law.
+//! Laws about reversed, merged, flattened and anchored NFAs. Each function does nothing: its contract is the law.
 ghost use Rattle.automata_transform.specs.Laws.AnchoredStarts.{AnchoredAnswerAlike, AnchoredKeepUtf8};
 ghost use Rattle.automata_transform.specs.Laws.AnchoredStarts.{AnchoredPairsAlike};
+ghost use Rattle.automata_transform.specs.Laws.FlattenedChains.{FlattenedAnswerAlike, FlattenedKeepUtf8};
+ghost use Rattle.automata_transform.specs.Laws.FlattenedChains.{FlattenedPairsAlike};
 ghost use Rattle.automata_transform.specs.Nfas.Mirrors.{PatternsAreReversed, ReversedIsTrue};
 ghost use Rattle.automata_transform.specs.Laws.MergedUnions.{MergedAcceptAlike, MergedAnswerAlike, MergedBeginAlike};
 ghost use Rattle.automata_transform.specs.Laws.MergedUnions.{MergedKeepUtf8, MergedReadUtf8, MergedStayAcyclic};
@@ -37,4 +39,13 @@ pub fn anchored_answers_alike()
     ensures answers { AnchoredAnswerAlike }
     ensures pairs { AnchoredPairsAlike }
     ensures utf8 { AnchoredKeepUtf8 }
+{}
+
+/// Flattening chains of unions changes no answer: the paths of an NFA correspond to those of the flattened NFA, in the
+/// same order. The accepting paths end at the same offsets, and the NFA keeps the UTF-8 promise exactly if the given one
+/// does.
+pub fn flattened_answers_alike()
+    ensures answers { FlattenedAnswerAlike }
+    ensures pairs { FlattenedPairsAlike }
+    ensures utf8 { FlattenedKeepUtf8 }
 {}

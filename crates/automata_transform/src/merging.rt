@@ -217,6 +217,16 @@ impl Merging {
             && stands_for(self.lists.as_slice(), self.count, last.next, targets)
     }
 
+    /// Returns the target of one of these ranges that stands for these targets, or none.
+    fn known(&self, ranges: &[Transition], targets: &[StateID]) -> Option<StateID> {
+        for range in ranges {
+            if stands_for(self.lists.as_slice(), self.count, range.next, targets) {
+                return Some(range.next);
+            }
+        }
+        None
+    }
+
     /// Extends the ranges of a state, so that a byte leads to these targets.
     fn push_byte(
         &mut self,
@@ -233,7 +243,10 @@ impl Merging {
                 return Ok(());
             }
         }
-        let next = self.standing(targets)?;
+        let next = match self.known(ranges.as_slice(), targets.as_slice()) {
+            Some(next) => next,
+            None => self.standing(targets)?,
+        };
         let (lo, hi) = (byte, byte);
         ranges.push(Transition { lo, hi, next })?;
         Ok(())
@@ -467,7 +480,7 @@ fn merged_as(nfa: &NFA, merged: MergedStates) -> Result<NFA, AllocError>
 
 /// Returns the NFA of these states with the starts and flags of `nfa`, or none if `NFA::from_states` does not
 /// accept them.
-fn with_states(nfa: &NFA, states: Vec<State>) -> Result<Option<NFA>, AllocError>
+pub fn with_states(nfa: &NFA, states: Vec<State>) -> Result<Option<NFA>, AllocError>
     requires { nfa.now.keeps_unions ≡ false }
     ensures begins { IfOk result (λ some. IfSome some (λ made. BeginsAs nfa.now made)) }
     ensures states { IfOk result (λ some. IfSome some (λ made. made.states ≡ states.items)) }
@@ -505,7 +518,7 @@ fn if_merged(nfa: &NFA, made: NFA, lists: &[Vec<StateID>]) -> Result<NFA, AllocE
 
 /// Whether a closure in the other NFA needs no more room than in `nfa`, no cycle of epsilon transitions passes a
 /// look there if none does here, and it skips lazily if `nfa` does.
-fn bounds(nfa: &NFA, other: &NFA) -> bool
+pub fn bounds(nfa: &NFA, other: &NFA) -> bool
     ensures { IsTrue result → KeepsBounds nfa.now other.now }
 {
     other.room() <= nfa.room()

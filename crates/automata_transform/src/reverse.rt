@@ -103,7 +103,7 @@ fn turned_states(
     let mut turning = EdgesByTarget::new(alloc, states.len())?;
     turning.turn_states(states, reached)?;
     turning.report(first)?;
-    let turned = turning.into_states(alloc)?;
+    let turned = turning.into_states()?;
     if turned.len() > MAX_STATES {
         return Err(MakeError::TooLarge);
     }
@@ -165,8 +165,8 @@ pub fn reverse_states(
 {
     let reached = reach(alloc, states, &[first], Edges::Every)?;
     let ids = reached.as_slice();
-    let turned = turned_states(alloc, states, first, ids)?;
-    let parts = parts_of(alloc, states, &turned, ids, patterns)?;
+    let mut turned = turned_states(alloc, states, first, ids)?;
+    let parts = parts_of(alloc, states, &mut turned, ids, patterns)?;
     let mirror = rooted(alloc, parts)?;
     Ok(mirror)
 }

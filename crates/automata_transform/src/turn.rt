@@ -6,13 +6,13 @@ ghost use Rattle.automata_transform.specs.Nfas.Mirrors.{flip};
 ghost use Rattle.automata_base.specs.Nfas.Nodes.{node_of, nodes_of};
 ghost use Rattle.automata_base.specs.Nfas.Errors.{transitions_below, state_below, states_below};
 ghost use Rattle.automata_transform.specs.Retraced.DenseRuns.{starts_with, run_of, runs_from};
-ghost use Rattle.automata_base.specs.Retraced.ReversedEdges.{lists_of, push_at, no_lists};
-ghost use Rattle.automata_transform.specs.Retraced.ReversedEdges.{turns_of, turn_free};
-ghost use Rattle.automata_transform.specs.Retraced.ReversedEdges.{turn_by, ends_in, put, put_at, turn_all, turn_ranges};
+ghost use Rattle.automata_base.specs.Retraced.ReversedEdges.{no_lists};
+ghost use Rattle.automata_transform.specs.Retraced.ReversedEdges.{alternates_in, turns_of, turn_free};
+ghost use Rattle.automata_transform.specs.Retraced.ReversedEdges.{turn_by, turn_all, turn_ranges};
 ghost use Rattle.automata_transform.specs.Retraced.ReversedEdges.{turn_state, turn_states, size, IsHead, AreMade};
 
+use crate::alternates::{Alternates, no_alternates, push_at, put_at, single};
 use automata_base::nfa::thompson::{State, Transition};
-use automata_base::util::id_lists::{no_lists, push_at};
 use automata_base::util::look::Look;
 use automata_base::util::primitives::{PatternID, StateID};
 use std::alloc::{AllocError, Global};
@@ -44,43 +44,13 @@ fn flip(look: Look) -> Look
 }
 
 /// Appends a state to a list.
+#[inline(always)]
 pub fn push_state(states: &mut Vec<State>, state: State) -> Result<(), AllocError>
     ensures items { OnOk result (states.new.items ≡ states.old.items ++ state ∷ []) }
     ensures nodes { OnOk result (nodes_of states.new.items ≡ nodes_of states.old.items ++ node_of state ∷ []) }
     ensures more { OnOk result (length states.new.items ≡ length states.old.items + 1) }
 {
     states.push(state)?;
-    Ok(())
-}
-
-/// Whether the state is the last of these.
-fn ends_in(ids: &[StateID], id: StateID) -> bool
-    ensures { result ≡ ends_in ids.now id }
-{
-    match ids.last() {
-        Some(last) => *last == id,
-        None => false,
-    }
-}
-
-/// Appends a state to a list, unless it is the last of the list already.
-fn put(ids: &mut Vec<StateID>, id: StateID) -> Result<(), AllocError>
-    ensures { OnOk result (ids.new.items ≡ put ids.old.items id) }
-{
-    if ends_in(ids.as_slice(), id) {
-        return Ok(());
-    }
-    ids.push(id)?;
-    Ok(())
-}
-
-/// Appends a state to the list at an index, unless it is the last of that list already.
-fn put_at(lists: &mut Vec<Vec<StateID>>, at: usize, id: StateID) -> Result<(), AllocError>
-    requires { at < length lists.old.items }
-    ensures put { OnOk result (lists_of lists.new.items ≡ put_at (lists_of lists.old.items) at id) }
-    ensures few { OnOk result (length lists.new.items ≡ length lists.old.items) }
-{
-    put(&mut lists[at], id)?;
     Ok(())
 }
 
@@ -103,30 +73,55 @@ fn same(state: &State) -> Option<State>
     }
 }
 
-/// Returns a copy of the only alternate, or none if there is not exactly one or it is not a helper. The first helper
-/// has the ID `first`.
-fn only_helper(alternates: &[StateID], helpers: &[State], first: usize) -> Option<State>
+/// Returns a copy of the helper with this ID, or none if it is not the ID of a helper. The first helper has the ID
+/// `first`.
+fn helper_of(id: StateID, helpers: &[State], first: usize) -> Option<State>
     ensures { (state : State) → result ≡ Some state
-        → (j : ℕ) × (alternates.now ≡ (first + j) ∷ []) × (slice_get helpers.now j ≡ Some state) }
+        → (j : ℕ) × (id ≡ first + j) × (slice_get helpers.now j ≡ Some state) }
 {
-    if alternates.len() != 1 || alternates[0].as_usize() < first {
+    if id.as_usize() < first {
         return None;
     }
-    let at = alternates[0].as_usize() - first;
+    let at = id.as_usize() - first;
     if at >= helpers.len() {
         return None;
     }
     same(&helpers[at])
 }
 
+/// Returns the state of one alternate: a copy of the helper, or a union if it is not a helper. The first helper has the
+/// ID `first`.
+fn head_of(
+    alloc: Global,
+    only: StateID,
+    helpers: &[State],
+    first: usize,
+) -> Result<State, AllocError>
+    ensures { IfOk result (λ state. IsHead first helpers.now (only ∷ []) state) }
+{
+    if let Some(state) = helper_of(only, helpers, first) {
+        return Ok(state);
+    }
+    let alternates = single(alloc, only)?;
+    Ok(State::Union { alternates })
+}
+
 /// Returns the state of these alternates: their union, or a copy of the helper if that is the only one. The first
 /// helper has the ID `first`.
-fn head(alternates: Vec<StateID>, helpers: &[State], first: usize) -> State
-    ensures { IsHead first helpers.now alternates.items result }
+fn head(
+    alloc: Global,
+    alternates: Alternates,
+    helpers: &[State],
+    first: usize,
+) -> Result<State, AllocError>
+    ensures { IfOk result (λ state. IsHead first helpers.now (alternates_in alternates) state) }
 {
-    match only_helper(&alternates, helpers, first) {
-        Some(state) => state,
-        None => State::Union { alternates },
+    match alternates {
+        Alternates::Empty => Ok(State::Union {
+            alternates: Vec::new(alloc),
+        }),
+        Alternates::One(only) => head_of(alloc, only, helpers, first),
+        Alternates::Several(alternates) => Ok(State::Union { alternates }),
     }
 }
 
@@ -162,7 +157,8 @@ impl From<AllocError> for MakeError {
 /// state where it begins, and any other edge by a helper, a state of its own. The helpers come after the states.
 #[derive(Drop)]
 pub struct EdgesByTarget {
-    lists: Vec<Vec<StateID>>,
+    alloc: Global,
+    lists: Vec<Alternates>,
     helpers: Vec<State>,
 }
 
@@ -172,10 +168,12 @@ impl EdgesByTarget {
         ensures none { IfOk result (λ t. turns_of t ≡ record { lists = no_lists states; helpers = [] }) }
         ensures few { IfOk result (λ t. length t.lists.items ≡ states) }
     {
-        let lists = no_lists(alloc, states)?;
+        let lists = no_alternates(alloc, states)?;
+        let helpers = Vec::with_capacity(alloc, states)?;
         Ok(EdgesByTarget {
+            alloc,
             lists,
-            helpers: Vec::new(alloc),
+            helpers,
         })
     }
 
@@ -194,12 +192,13 @@ impl EdgesByTarget {
         ensures turned { OnOk result (turns_of self.new ≡ turn_free (turns_of self.old) x to) }
         ensures few { OnOk result (length self.new.lists.items ≡ length self.old.lists.items) }
     {
-        put_at(&mut self.lists, to.as_usize(), x)?;
+        put_at(self.alloc, &mut self.lists, to.as_usize(), x)?;
         Ok(())
     }
 
     /// Adds a helper that stands for an edge to `to`, as an alternate of `to`. If there is no ID left, it fails with
     /// `TooLarge`.
+    #[inline(always)]
     fn turn_by(&mut self, helper: State, to: StateID) -> Result<(), MakeError>
         requires { to < length self.old.lists.items }
         ensures turned { OnOk result (turns_of self.new ≡ turn_by (turns_of self.old) helper to) }
@@ -211,7 +210,7 @@ impl EdgesByTarget {
             return Err(MakeError::TooLarge);
         };
         push_state(&mut self.helpers, helper)?;
-        push_at(&mut self.lists, to.as_usize(), id)?;
+        push_at(self.alloc, &mut self.lists, to.as_usize(), id)?;
         Ok(())
     }
 
@@ -403,14 +402,19 @@ impl EdgesByTarget {
     }
 
     /// Returns the states: one for each list of alternates, and after these the helpers.
-    pub fn into_states(self, alloc: Global) -> Result<Vec<State>, AllocError>
+    pub fn into_states(self) -> Result<Vec<State>, AllocError>
         ensures { IfOk result (λ states. AreMade (turns_of self) states.items) }
     {
-        let EdgesByTarget { lists, mut helpers } = self;
+        let EdgesByTarget {
+            alloc,
+            lists,
+            mut helpers,
+        } = self;
         let first = lists.len();
-        let mut states = Vec::new(alloc);
+        let mut states = Vec::with_capacity(alloc, first + helpers.len())?;
         for alternates in lists {
-            states.push(head(alternates, &helpers, first))?;
+            let head = head(alloc, alternates, &helpers, first)?;
+            states.push(head)?;
         }
         states.append(&mut helpers)?;
         Ok(states)

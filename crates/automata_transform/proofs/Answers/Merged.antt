@@ -48,7 +48,7 @@ use Rattle.automata_base.proofs.Paths.Sets.{in_nth}
 use Rattle.automata_base.proofs.Powersets.ReportsAreRight.{start_below}
 
 -- The position at which a path first reaches the state `on`.
-abbrev IsFirstOn : Nfa → Tape → (start on : ℕ) → List ℕ → ℕ → Type 0
+abbrev pub IsFirstOn : Nfa → Tape → (start on : ℕ) → List ℕ → ℕ → Type 0
 IsFirstOn n t start on path place =
     (head rest : List ℕ) × (path ≡ head ++ rest) × IsPath n t start place on head
     × ((shorter : List ℕ) (sooner : ℕ) → Begins shorter head → IsPath n t start sooner on shorter → ⊥)
@@ -59,7 +59,7 @@ module _ (n m : Nfa) (t : Tape) (start on : ℕ) (R : List ℕ → List ℕ → 
     (back : (i : ℕ) (b : List ℕ) → IsPath m t start i on b → (a : List ℕ) × R a b × IsPath n t start i on a)
     (heads : (a b c d : List ℕ) → R a b → R c d → IsPrefix a c → IsPrefix b d)
     (beginnings : (a b c d : List ℕ) → R a b → R c d → IsBeginning b d → IsBeginning a c) where
-  first_on : (a b : List ℕ) (place : ℕ) → R a b → IsFirstOn n t start on a place → IsFirstOn m t start on b place
+  pub first_on : (a b : List ℕ) (place : ℕ) → R a b → IsFirstOn n t start on a place → IsFirstOn m t start on b place
   first_on a b place r (head, rest, e, path, none) =
       let c = there place head path in
       let s = head_from c.0 b (heads head c.0 a b c.1 r (head_to head rest a e)) in (

@@ -4,6 +4,8 @@ use Rattle.std.specs.Prelude.{Option, None, map, ◌↔◌, Bool, false, slice_g
 use Rattle.automata_base.specs.declared.nfa.thompson.state.State.{State}
 use Rattle.automata_base.specs.declared.nfa.thompson.state.State.TheVariants as is
 use Rattle.automata_base.specs.declared.nfa.thompson.state.Transition.{Transition}
+use Rattle.automata_transform.specs.declared.alternates.Alternates.{Alternates}
+use Rattle.automata_transform.specs.declared.alternates.Alternates.TheVariants as few
 use Rattle.automata_transform.specs.declared.turn.EdgesByTarget.{EdgesByTarget}
 use Rattle.automata_transform.specs.Nfas.Mirrors.{flip}
 use Rattle.automata_base.specs.Nfas.Nfa.{Node, Split, Assert, Read, Accept, accepts_at}
@@ -14,7 +16,18 @@ use Rattle.automata_transform.specs.Retraced.DenseRuns.{runs_from}
 use Rattle.automata_base.specs.declared.nfa.thompson.reach.Edges.TheVariants.{Every}
 use Rattle.std.specs.declared.alloc.Global.{Global}
 use Rattle.std.proofs.Common.{Vec}
-use Rattle.automata_base.specs.Retraced.ReversedEdges.{lists_of, push_at, no_lists, place_in}
+use Rattle.automata_base.specs.Retraced.ReversedEdges.{push_at, no_lists, place_in}
+
+-- The states in a list of alternates.
+abbrev pub alternates_in : Alternates → List ℕ
+alternates_in few.Empty = []
+alternates_in (few.One x) = x ∷ []
+alternates_in (few.Several ids) = ids.items
+
+-- The states in each of these lists of alternates.
+abbrev pub alternate_lists : List Alternates → List (List ℕ)
+alternate_lists [] = []
+alternate_lists (xs ∷ rest) = alternates_in xs ∷ alternate_lists rest
 
 -- The alternates of each state, and the helpers. The helpers come after the states, so the number of helper k is the
 -- number of states plus k.
@@ -26,7 +39,7 @@ pub record Turns : Type 0 where
 
 -- The alternates and helpers that the code holds.
 abbrev pub turns_of : EdgesByTarget → Turns
-turns_of t = record { lists = lists_of t.lists.items; helpers = t.helpers.items }
+turns_of t = record { lists = alternate_lists t.lists.items; helpers = t.helpers.items }
 
 -- Whether there is a number, and it is `x`.
 abbrev pub is_of : Option ℕ → (x : ℕ) → Bool

@@ -2,20 +2,21 @@
 use Rattle.std.proofs.Common.{ℕ, zero, suc, ◌≡◌, ◌<◌, ◌≤◌, ◌+◌, ◌⊎◌, ◌↔◌, ◌&&◌, ltb, Bool, true, false, cond, List}
 use Rattle.std.proofs.Common.{[], ◌∷◌, ◌++◌, length, length-append, get_or, drop, map, Vec, Option, Some, None, inl}
 use Rattle.std.proofs.Common.{inr, refl, sym}
-use Rattle.std.proofs.Common.{ap, ◌∙◌, subst, arith, append_assoc, append-nil}
+use Rattle.std.proofs.Common.{ap, ◌∙◌, subst, arith, append_assoc, append-nil, slice_set}
 use Rattle.std.proofs.lemmas.List.{get_or_default, drop_more, drop_all}
 use Rattle.automata_base.specs.declared.nfa.thompson.state.State.{State}
 use Rattle.automata_base.specs.declared.nfa.thompson.state.State.TheVariants as is
 use Rattle.automata_base.specs.Lists.{In, Distinct, all_below}
-use Rattle.std.specs.Prelude.{slice_get}
+use Rattle.std.specs.Prelude.{nat_eq, slice_get}
 use Rattle.automata_base.specs.Nfas.Nfa.{Node, Split, accepts_at}
 use Rattle.automata_base.specs.Nfas.Nodes.{node_of, nodes_of}
-use Rattle.automata_base.specs.Retraced.Reach.{IsReached, targets_of}
+use Rattle.automata_base.specs.Retraced.Reach.{IsReached, targets_at, targets_of}
 use Rattle.automata_base.specs.declared.nfa.thompson.reach.Edges.{Edges}
 use Rattle.automata_base.specs.declared.nfa.thompson.reach.Edges.TheVariants.{Every}
-use Rattle.automata_base.proofs.Powersets.Walking.{nodes_length}
+use Rattle.automata_base.proofs.Powersets.Walking.{node_at, nodes_length}
 use Rattle.automata_base.proofs.Paths.Orders.{some_inj, none_some}
 use Rattle.std.proofs.lemmas.Bool.{ltb-true, ltb-false, lt-ltb}
+use Rattle.std.proofs.lemmas.Bool.Decides.{nat_tests}
 use Rattle.automata_base.proofs.Paths.Walks.{in_either}
 use Rattle.automata_transform.specs.Retraced.ReversedEdges.{copied, copies, copy_of, is_of, matches_in, IsCopied}
 use Rattle.automata_transform.specs.Retraced.ReversedEdges.{Copied, HaveCopies, part_at}
@@ -51,6 +52,67 @@ map_next f xs out new w i x y l e g n h =
 
 pub map_done : (f : ℕ → ℕ) (xs out w : List ℕ) (i : ℕ) → length xs ≤ i → out ++ map f (drop i xs) ≡ w → out ≡ w
 map_done f xs out w i l h = sym (append-nil out) ∙ (sym (ap (λ z. out ++ map f z) (drop_all i xs l)) ∙ h)
+
+-- The numbers, of which the first `n` are replaced.
+abbrev pub replaced : (f : ℕ → ℕ) → (n : ℕ) → List ℕ → List ℕ
+replaced f n [] = []
+replaced f zero (x ∷ xs) = x ∷ xs
+replaced f (suc n) (x ∷ xs) = f x ∷ replaced f n xs
+
+pub none_replaced : (f : ℕ → ℕ) (xs : List ℕ) → replaced f 0 xs ≡ xs
+none_replaced f [] = refl
+none_replaced f (x ∷ xs) = refl
+
+pub all_replaced : (f : ℕ → ℕ) (xs : List ℕ) → replaced f (length xs) xs ≡ map f xs
+all_replaced f [] = refl
+all_replaced f (x ∷ xs) = ap (λ z. f x ∷ z) (all_replaced f xs)
+
+pub replaced_next :
+    (f : ℕ → ℕ) (xs : List ℕ) (i d y : ℕ) → i < length xs → y ≡ f (get_or (replaced f i xs) i d)
+    → slice_set (replaced f i xs) i y ≡ replaced f (suc i) xs
+replaced_next f [] i d y l e = absurd (omega (arith, l))
+replaced_next f (x ∷ xs) zero d y l e = ap (λ z. z ∷ xs) e ∙ ap (λ z. f x ∷ z) (sym (none_replaced f xs))
+replaced_next f (x ∷ xs) (suc i) d y l e = ap (λ z. f x ∷ z) (replaced_next f xs i d y (omega (arith, l)) e)
+
+-- The next of the numbers is not replaced yet.
+pub replaced_at :
+    (f : ℕ → ℕ) (xs : List ℕ) (i d : ℕ) → i < length xs → In (get_or (replaced f i xs) i d) xs
+replaced_at f [] i d l = absurd (omega (arith, l))
+replaced_at f (x ∷ xs) zero d l = inl refl
+replaced_at f (x ∷ xs) (suc i) d l = inr (replaced_at f xs i d (omega (arith, l)))
+
+distinct_drop : (i : ℕ) (xs : List ℕ) → Distinct xs → Distinct (drop i xs)
+distinct_drop zero xs d = d
+distinct_drop (suc i) [] d = d
+distinct_drop (suc i) (x ∷ xs) d = distinct_drop i xs d.1
+
+-- The members after one of them are other members.
+pub after_member :
+    (xs : List ℕ) (i x : ℕ) → Distinct xs → i < length xs → x ≡ get_or xs i x
+    → (q : ℕ) → In q (drop (i + 1) xs) → In q (drop i xs) × (q ≡ x → ⊥)
+after_member xs i x d l e q h = (
+  subst (λ z. In q z) (sym begins) (inr h),
+  λ same. (subst (λ z. Distinct z) begins (distinct_drop i xs d)).0 (subst (λ z. In z (drop (i + 1) xs)) same h),
+)
+  where
+    begins : drop i xs ≡ x ∷ drop (i + 1) xs
+    begins = drop_more xs i x l ∙ ap (λ z. z ∷ drop (i + 1) xs) (sym e)
+
+-- The next member is one of those that are left.
+pub next_member : (xs : List ℕ) (i x : ℕ) → i < length xs → x ≡ get_or xs i x → In x (drop i xs)
+next_member xs i x l e =
+    subst (λ z. In x z) (sym (drop_more xs i x l ∙ ap (λ z. z ∷ drop (i + 1) xs) (sym e))) (inl refl)
+
+-- A state that is still what it was leads only to members.
+pub closed_at :
+    (turned now : List State) (items : List ℕ) (x q : ℕ) → x < length turned
+    → get_or now x is.Fail ≡ get_or turned x is.Fail
+    → ((x q : ℕ) → In x items → In q (targets_of Every turned x) → In q items) → In x items
+    → In q (targets_at Every (node_of (get_or now x is.Fail))) → In q items
+closed_at turned now items x q l e closed member i =
+    closed x q member
+    (subst (λ z. In q (targets_at Every z))
+    (ap node_of e ∙ sym (node_at turned x (get_or turned x is.Fail) is.Fail l refl)) i)
 
 pub copies_next :
     (f : ℕ → ℕ) (p : ℕ) (turned : List State) (xs : List ℕ) (out new w : List Node) (i id at : ℕ) (s : State) (y : Node)
@@ -215,6 +277,10 @@ nth_inside : (xs : List ℕ) (k x : ℕ) → slice_get xs k ≡ Some x → k < l
 nth_inside [] k x e = absurd (none_some e)
 nth_inside (y ∷ ys) zero x e = omega arith
 nth_inside (y ∷ ys) (suc k) x e = let l = nth_inside ys k x e in omega (arith, l)
+
+-- A pattern that another one follows is not the last.
+pub before_last : (p patterns : ℕ) → p + 1 < patterns → nat_eq (p + 1) patterns ≡ false
+before_last p patterns l = grind (arith, nat_tests)
 
 pub have_none : (states turned : List State) (reached : List ℕ) → HaveCopies [] states turned reached []
 have_none states turned reached = record {

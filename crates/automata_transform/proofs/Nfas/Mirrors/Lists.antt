@@ -13,26 +13,51 @@ use Rattle.std.specs.declared.alloc.Global.{Global}
 use Rattle.automata_base.specs.declared.nfa.thompson.state.State.{State}
 use Rattle.automata_base.specs.declared.nfa.thompson.state.State.TheVariants.{Fail}
 use Rattle.automata_base.specs.Lists.{In}
-use Rattle.automata_transform.specs.Retraced.ReversedEdges.{Turns, list_match, put, put_at}
+use Rattle.automata_transform.specs.declared.alternates.Alternates.{Alternates}
+use Rattle.automata_transform.specs.Retraced.ReversedEdges.{Turns, alternates_in, alternate_lists, list_match}
+use Rattle.automata_transform.specs.Retraced.ReversedEdges.{put, put_at}
 use Rattle.automata_base.specs.Retraced.ReversedEdges.{lists_of, list_at, push_at}
 use Rattle.automata_transform.specs.Retraced.ReversedEdges.{ends_in, is_of}
 use Rattle.automata_transform.specs.Retraced.ReversedEdges.{turn_state, turn_states}
 use Rattle.automata_transform.specs.Retraced.ReversedEdges.{IsHead, AreHeads, AreMade}
 use Rattle.automata_base.proofs.Paths.Orders.{some_inj, none_some}
-use Rattle.automata_base.proofs.Nfas.Mirrors.Lists.{lists_length, lists_append, push_same, push_other}
+use Rattle.automata_base.proofs.Nfas.Mirrors.Lists.{push_same, push_other}
 
 pub push_length : (xs : List (List ℕ)) (k x : ℕ) → length (push_at xs k x) ≡ length xs
 push_length [] k x = refl
 push_length (y ∷ ys) zero x = refl
 push_length (y ∷ ys) (suc k) x = ap suc (push_length ys k x)
 
+pub alternates_length : (vs : List Alternates) → length (alternate_lists vs) ≡ length vs
+alternates_length [] = refl
+alternates_length (v ∷ vs) = ap suc (alternates_length vs)
+
+pub alternates_append :
+    (vs : List Alternates) (v : Alternates)
+    → alternate_lists (vs ++ v ∷ []) ≡ alternate_lists vs ++ alternates_in v ∷ []
+alternates_append [] v = refl
+alternates_append (w ∷ vs) v = ap (λ z. alternates_in w ∷ z) (alternates_append vs v)
+
+-- Adding an ID to one of the lists is `push_at` on the lists.
+pub alternates_push :
+    (vs : List Alternates) (k : ℕ) (old new d : Alternates) (x : ℕ) → k < length vs → old ≡ get_or vs k d
+    → alternates_in new ≡ alternates_in old ++ x ∷ []
+    → alternate_lists (set vs k new) ≡ push_at (alternate_lists vs) k x
+alternates_push [] k old new d x l e f = absurd (omega (arith, l))
+alternates_push (v ∷ vs) zero old new d x l e f =
+    ap (λ z. z ∷ alternate_lists vs) (f ∙ ap (λ v. alternates_in v ++ x ∷ []) e)
+alternates_push (v ∷ vs) (suc k) old new d x l e f =
+    ap (λ z. alternates_in v ∷ z) (alternates_push vs k old new d x (omega (arith, l)) e f)
+
 -- Adding an ID to one of the lists, unless it is the last one there, is `put_at` on the lists.
-pub lists_put :
-    (vs : List (Vec ℕ Global)) (k : ℕ) (old new d : Vec ℕ Global) (x : ℕ) → k < length vs → old ≡ get_or vs k d
-    → new.items ≡ put old.items x → lists_of (set vs k new) ≡ put_at (lists_of vs) k x
-lists_put [] k old new d x l e f = absurd (omega (arith, l))
-lists_put (v ∷ vs) zero old new d x l e f = ap (λ z. z ∷ lists_of vs) (f ∙ ap (λ (v : Vec ℕ Global). put v.items x) e)
-lists_put (v ∷ vs) (suc k) old new d x l e f = ap (λ z. v.items ∷ z) (lists_put vs k old new d x (omega (arith, l)) e f)
+pub alternates_put :
+    (vs : List Alternates) (k : ℕ) (old new d : Alternates) (x : ℕ) → k < length vs → old ≡ get_or vs k d
+    → alternates_in new ≡ put (alternates_in old) x → alternate_lists (set vs k new) ≡ put_at (alternate_lists vs) k x
+alternates_put [] k old new d x l e f = absurd (omega (arith, l))
+alternates_put (v ∷ vs) zero old new d x l e f =
+    ap (λ z. z ∷ alternate_lists vs) (f ∙ ap (λ v. put (alternates_in v) x) e)
+alternates_put (v ∷ vs) (suc k) old new d x l e f =
+    ap (λ z. alternates_in v ∷ z) (alternates_put vs k old new d x (omega (arith, l)) e f)
 
 pub put_length : (xs : List (List ℕ)) (k x : ℕ) → length (put_at xs k x) ≡ length xs
 put_length [] k x = refl
@@ -132,24 +157,24 @@ heads_more n hs (ys ∷ rest) [] xs s a h = absurd a
 heads_more n hs (ys ∷ rest) (x ∷ ss) xs s a h = (a.0, heads_more n hs rest ss xs s a.1 h)
 
 pub heads_step :
-    (n : ℕ) (hs hs' : List State) (yielded : List (Vec ℕ Global)) (v : Vec ℕ Global) (states new : List State)
-    (s : State)
-    → AreHeads n hs (lists_of yielded) states → IsHead n hs' v.items s → hs' ≡ hs → new ≡ states ++ s ∷ []
-    → AreHeads n hs (lists_of (yielded ++ v ∷ [])) new
+    (n : ℕ) (hs hs' : List State) (yielded : List Alternates) (v : Alternates) (states new : List State) (s : State)
+    → AreHeads n hs (alternate_lists yielded) states → IsHead n hs' (alternates_in v) s → hs' ≡ hs
+    → new ≡ states ++ s ∷ [] → AreHeads n hs (alternate_lists (yielded ++ v ∷ [])) new
 heads_step n hs hs' yielded v states new s a h e f =
-    subst (λ z. AreHeads n hs (lists_of (yielded ++ v ∷ [])) z) (sym f)
-    (subst (λ z. AreHeads n hs z (states ++ s ∷ [])) (sym (lists_append yielded v))
-    (heads_more n hs (lists_of yielded) states v.items s a (subst (λ z. IsHead n z v.items s) e h)))
+    subst (λ z. AreHeads n hs (alternate_lists (yielded ++ v ∷ [])) z) (sym f)
+    (subst (λ z. AreHeads n hs z (states ++ s ∷ [])) (sym (alternates_append yielded v))
+    (heads_more n hs (alternate_lists yielded) states (alternates_in v) s a
+    (subst (λ z. IsHead n z (alternates_in v) s) e h)))
 
 pub made_is :
-    (n len : ℕ) (hs : List State) (lists yielded : List (Vec ℕ Global)) (heads states : List State)
-    → AreHeads n hs (lists_of yielded) heads → yielded ≡ lists → n ≡ len → len ≡ length lists → states ≡ heads ++ hs
-    → AreMade (record { lists = lists_of lists; helpers = hs }) states
+    (n len : ℕ) (hs : List State) (lists yielded : List Alternates) (heads states : List State)
+    → AreHeads n hs (alternate_lists yielded) heads → yielded ≡ lists → n ≡ len → len ≡ length lists
+    → states ≡ heads ++ hs → AreMade (record { lists = alternate_lists lists; helpers = hs }) states
 made_is n len hs lists yielded heads states a e l m f = (
   heads,
   f,
-  subst (λ z. AreHeads z hs (lists_of lists) heads) (l ∙ (m ∙ sym (lists_length lists)))
-      (subst (λ z. AreHeads n hs (lists_of z) heads) e a),
+  subst (λ z. AreHeads z hs (alternate_lists lists) heads) (l ∙ (m ∙ sym (alternates_length lists)))
+      (subst (λ z. AreHeads n hs (alternate_lists z) heads) e a),
 )
 
 -- Replacing a list by one with the same items changes nothing.

@@ -37,8 +37,7 @@ parts_of-requires-clause-turned c =
     (λ q i. subst (λ z. q < z) c.in_ok-reached.ensures.capacity (c.as_slice-ids.ensures.below q i)) in
     let distinct : Distinct c.as_slice-ids.result.now =
     subst (λ (z : List ℕ). Distinct z) (sym c.as_slice-ids.ensures.items) c.as_slice-ids.ensures.distinct in
-    subst (λ (z : List State). AreCopyable c.args.states.now z) (sym c.deref.ensures.value)
-    (record {
+    record {
       range =
           states_in_range c.args.states.now c.in_ok-turned.turned.items c.as_slice-ids.result.now c.args.first
           c.requires.range c.requires.first small
@@ -51,7 +50,7 @@ parts_of-requires-clause-turned c =
           states_whole c.args.states.now c.in_ok-turned.turned.items c.as_slice-ids.result.now c.args.first
           c.requires.range c.requires.first small
           c.in_ok-turned.ensures.turned;
-    })
+    }
 
 pub returns-in_err-turned-clause-large : goal.returns-in_err-turned-clause-large
 returns-in_err-turned-clause-large c = λ e.
@@ -70,9 +69,7 @@ returns-in_err-parts-clause-large c = λ e.
     let long =
     turned_length c.args.states.now c.in_ok-turned.turned.items c.as_slice-ids.result.now c.args.first distinct small
     c.in_ok-turned.ensures.turned in
-    let same : length c.deref.result.now ≡ length c.in_ok-turned.turned.items =
-    ap (λ z. length z) c.deref.ensures.value in
-    parts_large c.args.states.now c.deref.result.now c.args.patterns (omega (arith, same, long))
+    parts_large c.args.states.now c.in_ok-turned.turned.items c.args.patterns long
     (c.in_err-parts.ensures.large
     (err_is c.from_residual-in_err-parts.result _ _ c.from_residual-in_err-parts.ensures.1 e))
 
@@ -87,12 +84,10 @@ returns-in_err-mirror-clause-large c = λ e.
     let long =
     turned_length c.args.states.now c.in_ok-turned.turned.items c.as_slice-ids.result.now c.args.first distinct small
     c.in_ok-turned.ensures.turned in
-    let same : length c.deref.result.now ≡ length c.in_ok-turned.turned.items =
-    ap (λ z. length z) c.deref.ensures.value in
-    root_large c.args.states.now c.deref.result.now c.as_slice-ids.result.now c.args.patterns
+    root_large c.args.states.now c.in_ok-turned.turned.items c.as_slice-ids.result.now c.args.patterns
     (nodes_of c.in_ok-parts.parts.states.items)
     c.in_ok-parts.parts.entries.items (length c.in_ok-parts.parts.states.items) c.in_ok-parts.ensures.fit
-    (sym (nodes_length c.in_ok-parts.parts.states.items)) (omega (arith, same, long))
+    (sym (nodes_length c.in_ok-parts.parts.states.items)) long
     (c.in_err-mirror.ensures.large
     (err_is c.from_residual-in_err-mirror.result _ _ c.from_residual-in_err-mirror.ensures.1 e))
 
@@ -107,17 +102,13 @@ returns-clause-fit c =
     let long =
     turned_length c.args.states.now c.in_ok-turned.turned.items c.as_slice-ids.result.now c.args.first distinct small
     c.in_ok-turned.ensures.turned in
-    let same : length c.deref.result.now ≡ length c.in_ok-turned.turned.items =
-    ap (λ z. length z) c.deref.ensures.value in
     let wide =
     turned_alternates c.args.states.now c.in_ok-turned.turned.items c.as_slice-ids.result.now c.args.first distinct
     small c.in_ok-turned.ensures.turned
     c.requires.ordered in
-    let alike : sum_by alternates_of c.deref.result.now ≡ sum_by alternates_of c.in_ok-turned.turned.items =
-    ap (sum_by alternates_of) c.deref.ensures.value in
     let few : length c.as_slice-ids.result.now ≡ length c.in_ok-reached.reached.items =
     ap (λ z. length z) c.as_slice-ids.ensures.items in
-    made_fits c.args.states.now c.deref.result.now c.in_ok-mirror.mirror.states.items c.as_slice-ids.result.now
+    made_fits c.args.states.now c.in_ok-turned.turned.items c.in_ok-mirror.mirror.states.items c.as_slice-ids.result.now
     c.args.patterns
     (nodes_of c.in_ok-parts.parts.states.items) c.in_ok-parts.parts.entries.items c.in_ok-mirror.mirror.entries.items
     c.in_ok-mirror.mirror.root
@@ -125,8 +116,8 @@ returns-clause-fit c =
     c.in_ok-mirror.ensures.root
     (sym (nodes_length c.in_ok-parts.parts.states.items)) c.in_ok-mirror.ensures.small c.in_ok-mirror.ensures.entries
     c.in_ok-parts.ensures.count
-    (omega (arith, few, c.as_slice-ids.ensures.few, c.in_ok-reached.ensures.capacity)) (omega (arith, same, long))
-    (omega (arith, alike, wide))
+    (omega (arith, few, c.as_slice-ids.ensures.few, c.in_ok-reached.ensures.capacity)) long
+    wide
 
 pub returns-clause-mirrored : goal.returns-clause-mirrored
 returns-clause-mirrored c = record {
@@ -150,8 +141,6 @@ returns-clause-mirrored c = record {
       subst (λ (z : List ℕ). HaveCopies (nodes_of c.in_ok-parts.parts.states.items) c.args.states.now
       c.in_ok-turned.turned.items c.as_slice-ids.result.now z)
       (sym c.in_ok-mirror.ensures.entries)
-      (subst (λ (z : List State). HaveCopies (nodes_of c.in_ok-parts.parts.states.items) c.args.states.now z
-      c.as_slice-ids.result.now c.in_ok-parts.parts.entries.items)
-      c.deref.ensures.value c.in_ok-parts.ensures.copies);
+      c.in_ok-parts.ensures.copies;
   few = ap (λ z. length z) c.in_ok-mirror.ensures.entries ∙ c.in_ok-parts.ensures.count;
 }

@@ -1,11 +1,9 @@
-use Rattle.std.proofs.Common.{refl, sym, ◌∙◌}
-use Rattle.automata_transform.specs.Retraced.ReversedEdges.{IsUnionOfAll, IsOnlyHelper}
+use Rattle.std.proofs.Common.{refl, sym, ap, ◌∙◌}
+use Rattle.automata_transform.specs.Retraced.ReversedEdges.{alternates_in, IsUnionOfAll}
 use Rattle.automata_transform.proofs.turn.head.Goals as goal
 
-pub returns-in-Some : goal.returns-in-Some
-returns-in-Some c =
-    let r = c.only_helper.ensures c.in-Some.state c.in-Some.is in
-    IsOnlyHelper r.0 (sym c.deref.ensures.value ∙ r.1) r.2
+pub returns-in-Empty : goal.returns-in-Empty
+returns-in-Empty c = IsUnionOfAll c.new.result refl (c.new.ensures.items ∙ sym (ap alternates_in c.in-Empty.is))
 
-pub returns-in-None : goal.returns-in-None
-returns-in-None c = IsUnionOfAll c.args.alternates refl refl
+pub returns-in-Several : goal.returns-in-Several
+returns-in-Several c = IsUnionOfAll c.in-Several.alternates refl (sym (ap alternates_in c.in-Several.is))

@@ -8,8 +8,8 @@ use Rattle.automata_transform.proofs.turn.EdgesByTarget.into_states.Goals as goa
 pub loop-alternates-preserved : goal.loop-alternates-preserved
 loop-alternates-preserved c =
     heads_step _ _ _ c.loop-alternates.yielded c.in-Some.alternates c.loop-alternates.states.items c.push.new.self.items
-    c.head.result
-    c.loop-alternates.invariant c.head.ensures c.deref.ensures.value c.in_ok-push.ensures.items
+    c.in_ok-head.head
+    c.loop-alternates.invariant c.in_ok-head.ensures c.deref.ensures.value c.in_ok-push.ensures.items
 
 pub returns : goal.returns
 returns c =
