@@ -14,6 +14,7 @@ pub mod Singles
 pub mod Texts
 pub mod Spanning
 pub mod Means
+pub mod Remaining
 pub mod Iterations
 pub mod Matching
 pub mod Flags

@@ -1,6 +1,6 @@
 -- The leftmost match, by what is found at each offset, is the span that the paths define, if a lazy loop begins them.
 use Rattle.std.proofs.Common.{ℕ, zero, suc, ◌≡◌, ◌+◌, ◌-◌, ◌<◌, ◌≤◌, ◌⊎◌, List, [], ◌∷◌, Some, None, Bool, true, false}
-use Rattle.std.proofs.Common.{not, length, option_map, refl, sym, ap, ◌∙◌, subst, ⊎_elim, inl, inr, arith, true≢false}
+use Rattle.std.proofs.Common.{not, length, option_map, refl, sym, ap, ◌∙◌, subst, ⊎_elim, inr, arith, true≢false}
 use Rattle.std.specs.Prelude.{if◌then◌else◌}
 use Rattle.std.proofs.lemmas.Bool.{cases_lt}
 use Rattle.regex_hir.specs.Re.{Rest, Trace}

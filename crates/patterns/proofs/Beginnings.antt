@@ -30,13 +30,13 @@ use Rattle.meaning.specs.Patterns.{any_of}
 use Rattle.meaning.specs.Translated.{joined_engine}
 use Rattle.match_facts.specs.Prefixes.{BeginsWith}
 use Rattle.match_facts.proofs.Prefixes.{starts_with_one}
-use Rattle.prefilters.specs.Needles.{AllStartWith, BeginsAtNeedle}
+use Rattle.prefilters.specs.Needles.{AllHaveNeedleNear, AllStartWith, BeginsNearNeedle, HasNeedleNear, NearNeedles}
 use Rattle.prefilters.specs.Skipping.{IsLazy, NoneBeginsAt}
-use Rattle.prefilters.proofs.Joining.{needles_grow, needles_join}
+use Rattle.prefilters.proofs.Joining.{needles_grow, needles_join, starts_are_near}
 use Rattle.prefilters.proofs.Meaning.{meaning_none, needles_none}
 use Rattle.prefilters.proofs.Nowhere.{anchored_answers, anchored_none}
 use Rattle.patterns.specs.Patterns.{AreMeanings, IsJoinedNfa, config_of}
-use Rattle.patterns.specs.Searches.{AreNeedlesOf, MayReplace}
+use Rattle.patterns.specs.Searches.{AreNearFor, AreNeedlesOf, HaveNeedlesNear, MayReplace}
 use Rattle.patterns.specs.declared.compile.Options.{Options}
 use Rattle.patterns.proofs.Searching.{looks_same}
 use Rattle.patterns.proofs.Trees.{same_matches, trees_same}
@@ -49,9 +49,9 @@ lazy_of d (LazyLoop skip l) f = (skip, l)
 abbrev anchored : List ℕ → (o e : ℕ) → Input
 anchored hay o e = record { haystack = hay; start = o; end = e; anchored = Yes; earliest = false }
 
-module _ (regex : Regex) (needles : List (List ℕ)) (plain : IsSkipping (forward_engine regex) → ⊥) (o : Options)
+module _ (regex : Regex) (near : NearNeedles) (plain : IsSkipping (forward_engine regex) → ⊥) (o : Options)
     (res : List Re) (made : IsJoinedNfa o res regex.forward.nfa) (unicode : o.ascii ≡ false)
-    (all : AllStartWith res needles) where
+    (all : AllHaveNeedleNear res near) where
   -- the engine, apart from its match kind
   abbrev first : Engine
   first = engine_of regex.forward.nfa LeftmostFirst
@@ -60,8 +60,8 @@ module _ (regex : Regex) (needles : List (List ℕ)) (plain : IsSkipping (forwar
   not_ascii only = absurd (true≢false (sym only ∙ unicode))
 
   -- the regex answers as the joined engine, where no match begins by what the patterns mean
-  pub begins_with : BeginsAtNeedle (forward_engine regex) needles
-  begins_with hay e s p bytes within short nowhere at l k =
+  pub begins_near : BeginsNearNeedle (forward_engine regex) near
+  begins_near hay e s p bytes within short nowhere at l k =
       anchored_none first hay e at plain upto
       (((made.answers.alike LeftmostFirst).searches.answer Forward (anchored hay at e) None bytes).0
       (subst (λ d. IsAnswer Forward d (anchored hay at e) None) (sym made.joins)
@@ -74,12 +74,15 @@ module _ (regex : Regex) (needles : List (List ℕ)) (plain : IsSkipping (forwar
       none =
           meaning_none made.ks res o.utf8 hay e at made.nfas.0
           (looks_same o.ascii hay not_ascii made.ks made.nfas.1) upto within
-          (λ j. needles_none (any_of res) needles hay s p (needles_join res needles all) bytes nowhere at j l k)
+          (λ j. needles_none (any_of res) near hay s p (needles_join res near all) bytes nowhere at j l k)
 
 -- the needles of one tree of a text are those of each of its trees
 starts_same :
     (a b : Re) (needles : List (List ℕ)) → SameCaptures b a → StartsWithNeedle a needles → StartsWithNeedle b needles
 starts_same a b needles s starts hay bytes i j m = starts hay bytes i j (same_matches b a s hay bytes i j m)
+
+near_same : (a b : Re) (near : NearNeedles) → SameCaptures b a → HasNeedleNear a near → HasNeedleNear b near
+near_same a b near s has hay bytes i j m = has hay bytes i j (same_matches b a s hay bytes i j m)
 
 all_one : (P : Re → Type 0) (re : Re) → P re → All P (re ∷ [])
 all_one P re p = All-cons P re [] p (λ i d l. absurd (omega (arith, l)))
@@ -96,20 +99,33 @@ needles_of_tree options text h names needles reads starts (re ∷ []) are =
     (trees_same (config_of options) text are.0.0 h are.0.1 names are.0.2 reads)) starts)
 needles_of_tree options text h names needles reads starts (re ∷ next ∷ res) are = absurd are.1
 
--- other needles for the same texts
-pub needles_replaced :
-    (options : Options) (texts needles others : List (List ℕ)) → MayReplace needles others
-    → AreNeedlesOf options texts needles → AreNeedlesOf options texts others
-needles_replaced options texts needles others may are res meanings i d l = may (get_or res i d) (are res meanings i d l)
+pub near_of_tree :
+    (options : Options) (text : List ℕ) (h : kit_hir.Hir) (names : Names) (near : NearNeedles)
+    → Reads (config_of options) text h names → HasNeedleNear (meaning h) near
+    → HaveNeedlesNear options (text ∷ []) near
+near_of_tree options text h names near reads has [] are = absurd are
+near_of_tree options text h names near reads has (re ∷ []) are =
+    all_one (λ v. HasNeedleNear v near) re
+    (near_same (meaning h) re near
+    (subst (λ r. SameCaptures r (meaning h)) (sym are.0.3)
+    (trees_same (config_of options) text are.0.0 h are.0.1 names are.0.2 reads)) has)
+near_of_tree options text h names near reads has (re ∷ next ∷ res) are = absurd are.1
 
--- what is searched for, if a search for the others is built
-pub replaced :
-    {E : Type 0} (needles others : List (List ℕ)) (r : Result (Option (List (List ℕ))) E)
-    → IfOk r (λ o. IfSome o (λ p. p ≡ others)) → MayReplace needles others
-    → IfOk r (λ o. IfSome o (MayReplace needles))
-replaced needles others (Err e) is may = tt
-replaced needles others (Ok None) is may = tt
-replaced needles others (Ok (Some p)) is may = subst (MayReplace needles) (sym is) may
+-- needles with which matches begin are near their starts
+pub are_near :
+    (options : Options) (texts needles : List (List ℕ)) (near : NearNeedles) → AreNearFor needles near
+    → AreNeedlesOf options texts needles → HaveNeedlesNear options texts near
+are_near options texts needles near may are res meanings i d l = may (get_or res i d) (are res meanings i d l)
+
+-- what is searched for, if a search for the needles is built
+pub built_near :
+    {E : Type 0} (needles others : List (List ℕ)) (r : Result (Option NearNeedles) E)
+    → IfOk r (λ o. IfSome o (λ p. p ≡ record { needles = others; reach = 0 })) → MayReplace needles others
+    → IfOk r (λ o. IfSome o (AreNearFor needles))
+built_near needles others (Err e) is may = tt
+built_near needles others (Ok None) is may = tt
+built_near needles others (Ok (Some p)) is may =
+    subst (AreNearFor needles) (sym is) (λ re starts. starts_are_near re others 0 (may re starts))
 
 -- the common prefix of needles, as the only needle
 pub common_only :

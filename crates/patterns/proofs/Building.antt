@@ -11,12 +11,14 @@ use Rattle.automata_base.specs.Nfas.Getters.{SkipsLazily}
 use Rattle.automata_base.specs.Nfas.Nfa.{Nfa}
 use Rattle.automata_transform.specs.Answers.Alike.{AnswerAlike}
 use Rattle.automata_transform.specs.Nfas.AnchoredNfas.{AssertsStart, DropsLoop, IsAnchoredNfa, KeepsLoop}
+use Rattle.automata_transform.specs.Nfas.FlattenedNfas.{IsFlattenedNfa}
 use Rattle.automata_transform.specs.Nfas.MergedNfas.{IsMergedNfa}
 use Rattle.automata_base.specs.Nfas.Nodes.{Automaton, nfa_of}
 use Rattle.automata_base.specs.Nfas.Unions.{IsKeepingUnions}
 use Rattle.automata_config.specs.Options as settings
 use Rattle.automata_hybrid.specs.Machines.Machine.{Machine}
 use Rattle.automata_transform.proofs.Answers.Anchored.{anchored_alike, anchored_pairs, anchored_utf8}
+use Rattle.automata_transform.proofs.Answers.Flattened.{flattened_alike, flattened_pairs, flattened_utf8}
 use Rattle.automata_transform.proofs.Answers.Merged.{merged_acyclic, merged_alike, merged_pairs, merged_utf8}
 use Rattle.automata_base.proofs.Powersets.ReportsAreRight.{start_below}
 use Rattle.regex_automata.specs.Promises.{Forward, IsLookAcyclic, IsSoundPair, LeftmostFirst, No, engine_of}
@@ -54,7 +56,16 @@ answers_as a b checked into = record {
   count = ap length (sym into.begins.patterns);
 }
 
--- one without its lazy loop, too
+-- one whose chains are flattened, too
+flattened_as : (a b : Automaton) → IsFlattenedNfa a b → AnswersAs a b
+flattened_as a b into = record {
+  alike = λ kind. flattened_alike a b kind into;
+  ends = λ input pair bytes. flattened_pairs Forward a b input pair into bytes;
+  utf8 = λ kind. flattened_utf8 a b Forward kind into;
+  count = ap length (sym into.begins.patterns);
+}
+
+-- and one without its lazy loop
 patterns_same : (a b : Automaton) → IsAnchoredNfa a b → b.start_pattern ≡ a.start_pattern
 patterns_same a b (DropsLoop may is) = is.patterns
 patterns_same a b (KeepsLoop not is) = ap (λ (v : Automaton). v.start_pattern) is
@@ -67,7 +78,7 @@ anchored_as a b into = record {
   count = ap length (sym (patterns_same a b into));
 }
 
--- both, one after the other
+-- one after the other
 both : {A B C : Type 0} → A ↔ B → B ↔ C → A ↔ C
 both f g = ((λ a. g.0 (f.0 a)), (λ c. f.1 (g.1 c)))
 
@@ -119,14 +130,17 @@ joined_is o res ks a b nfas same into = record {
   joined = a;
   joins = same;
   answers =
-      answers_both a into.merged b (answers_as a into.merged into.merges.checked into.merges.merges)
-      (anchored_as into.merged b into.anchors);
+      answers_both a into.flat b (flattened_as a into.flat into.flattens)
+      (answers_both into.flat into.merged b (answers_as into.flat into.merged into.merges.checked into.merges.merges)
+      (anchored_as into.merged b into.anchors));
   acyclic =
       subst IsLookAcyclic (sym (nfa_same into.merged b into.anchors))
-      (merged_acyclic a into.merged into.merges.checked into.merges.merges (has_no_look_cycle a ks o.utf8 same));
+      (merged_acyclic into.flat into.merged into.merges.checked into.merges.merges
+      (into.bounds.acyclic (has_no_look_cycle a ks o.utf8 same)));
   unions =
       ap (λ (n : Nfa). n.keeps_unions) (nfa_same into.merged b into.anchors)
-      ∙ (into.merges.merges.begins.unions ∙ ap (λ (d : Engine). d.nfa.keeps_unions) same);
+      ∙ (into.merges.merges.begins.unions
+      ∙ (into.flattens.begins.unions ∙ ap (λ (d : Engine). d.nfa.keeps_unions) same));
 }
 
 -- a joined NFA skips bytes lazily
@@ -149,8 +163,10 @@ begins_anchored limit utf8 ks a b same into asserts = go into.anchors
         absurd
         (not (record {
           asserts = subst AssertsStart is asserts;
-          skips = into.merges.skips (skips_lazily a ks utf8 same);
-          unions = into.merges.merges.begins.unions ∙ ap (λ (d : Engine). d.nfa.keeps_unions) same;
+          skips = into.merges.skips (into.bounds.skips (skips_lazily a ks utf8 same));
+          unions =
+              into.merges.merges.begins.unions
+              ∙ (into.flattens.begins.unions ∙ ap (λ (d : Engine). d.nfa.keeps_unions) same);
         }))
 
 kept_is : (a kept : Automaton) → HasNoLookCycle a → a.keeps_unions ≡ false → IsKeepingUnions a kept → kept ≡ a

@@ -11,6 +11,7 @@ use Rattle.regex_hir.specs.Re.{Re}
 use Rattle.regex_nfa.specs.Sizes.{table_bytes}
 use Rattle.regex_nfa.specs.declared.nfa.Nfa as kit_nfa
 use Rattle.regex_syntax.specs.declared.Config.{Config}
+use Rattle.automata_transform.specs.Nfas.FlattenedNfas.{IsFlattenedNfa}
 use Rattle.automata_base.specs.Nfas.Engines.{Engine, any_byte, engine_of}
 use Rattle.automata_base.specs.Nfas.Nfa.{Nfa, Node, Split}
 use Rattle.automata_base.specs.Nfas.Nodes as ours
@@ -214,11 +215,20 @@ states_within o texts draft a is same =
 
 -- the states are within the size limit also if unions are merged
 merged_limit :
-    (o : Options) (texts : List (List ℕ)) (draft : Draft) (a b : Automaton) (is : IsDraftOf o texts draft) →
-    engine_of a LeftmostFirst ≡ joined_engine o.utf8 is.ks → IsMergedWithin o.size_limit a b → IsWithinLimit o texts b
-merged_limit o texts draft a b is same into =
+    (o : Options) (texts : List (List ℕ)) (a b : Automaton) → IsWithinLimit o texts a → IsMergedWithin o.size_limit a b
+    → IsWithinLimit o texts b
+merged_limit o texts a b within into =
     ⊎_elim (λ (l : 12 * length b.states ≤ o.size_limit). omega (arith, l))
-    (λ (e : b ≡ a). subst (λ v. IsWithinLimit o texts v) (sym e) (states_within o texts draft a is same)) into.small
+    (λ (e : b ≡ a). subst (λ v. IsWithinLimit o texts v) (sym e) within) into.small
+
+-- flattening chains of unions keeps the number of states
+flat_limit :
+    (o : Options) (texts : List (List ℕ)) (a b : Automaton) → IsWithinLimit o texts a → IsFlattenedNfa a b
+    → IsWithinLimit o texts b
+flat_limit o texts a b within into =
+    let same : length b.states ≡ length a.states =
+    sym (length-our_nodes b.states) ∙ (into.flat.count ∙ length-our_nodes a.states) in
+    subst (λ v. 12 * v ≤ o.size_limit + 24 * length texts + 36) (sym same) within
 
 -- and if the lazy loop is left out
 pub within_limit :
@@ -230,7 +240,8 @@ within_limit o texts draft a b is same into =
     let count : length b.states ≡ length into.merged.states =
     sym (length-our_nodes b.states) ∙ nodes ∙ length-our_nodes into.merged.states in
     subst (λ v. 12 * v ≤ o.size_limit + 24 * length texts + 36) (sym count)
-    (merged_limit o texts draft a into.merged is same into.merges)
+    (merged_limit o texts into.flat into.merged
+    (flat_limit o texts a into.flat (states_within o texts draft a is same) into.flattens) into.merges)
 
 -- the three states that join the patterns
 pub joined_nodes : (s0 s1 s2 s3 : List State) (x y z : State) (n1 n2 n3 : Node) →

@@ -73,9 +73,9 @@ module _ (p : Regex) (o : Options) (res : List Re) (is : IsRegexOf o res p) (hay
       found ≡ option_map (numbered_match res hay) (find_any o.utf8 res hay s)
   find_means s found h = span_is (forward_engine p) res hay (find_any o.utf8 res hay) spans s found h
 
-  pub truth_is_meant : (truth : Bool) → IsMatch (forward_engine p) (span_input hay 0 (length hay)) truth →
-      truth ≡ is_some (find_any o.utf8 res hay 0)
-  truth_is_meant truth h = truth_is (forward_engine p) res hay (find_any o.utf8 res hay) spans 0 truth h
+  pub truth_is_meant : (s : ℕ) (truth : Bool) → IsMatch (forward_engine p) (span_input hay s (length hay)) truth →
+      truth ≡ is_some (find_any o.utf8 res hay s)
+  truth_is_meant s truth h = truth_is (forward_engine p) res hay (find_any o.utf8 res hay) spans s truth h
 
   pub end_means : (s : ℕ) (found : Option HalfMatch) →
       WithoutBase (IsAnswer Forward (forward_engine p) (span_input hay s (length hay))) found →

@@ -27,7 +27,7 @@ use Rattle.regex_automata.specs.Spans.Outcomes.{MatchLiesIn}
 use Rattle.regex_automata.specs.Spans.Runs.{IsNextRun}
 use Rattle.regex_automata.specs.declared.hybrid.regex.caches.Cache.{Cache}
 use Rattle.meaning.specs.Patterns.{end_of, find_any, numbered_match}
-use Rattle.prefilters.specs.Needles.{BeginsAtNeedle, SkipsTo}
+use Rattle.prefilters.specs.Needles.{BeginsNearNeedle, NearNeedles, SkipsTo}
 use Rattle.prefilters.specs.Skipping.{IsLazy, MaySkipAll, MaySkipTo, MovesAnswer}
 use Rattle.prefilters.proofs.Answering.{answer_moves, span_moves, truth_moves}
 use Rattle.prefilters.proofs.Nowhere.{none_found}
@@ -47,19 +47,19 @@ IsBegin p input (Some at) = (at ≡ input.start) ⊎ (HasPrefilter p × MaySkipT
 
 -- a search for needles in the span of an input
 pub over :
-    (needles : List (List ℕ)) (input : Input) (hay : List ℕ) (start end : ℕ) (found : Option ℕ)
-    → hay ≡ input.haystack → start ≡ input.start → end ≡ input.end → SkipsTo hay needles start end found
-    → SkipsTo input.haystack needles input.start input.end found
-over needles input hay start end found same from upto to =
-    subst (λ v. SkipsTo input.haystack needles input.start v found) upto
-    (subst (λ v. SkipsTo input.haystack needles v end found) from
-    (subst (λ v. SkipsTo v needles start end found) same to))
+    (near : NearNeedles) (input : Input) (hay : List ℕ) (start end : ℕ) (found : Option ℕ)
+    → hay ≡ input.haystack → start ≡ input.start → end ≡ input.end → SkipsTo hay near start end found
+    → SkipsTo input.haystack near input.start input.end found
+over near input hay start end found same from upto to =
+    subst (λ v. SkipsTo input.haystack near input.start v found) upto
+    (subst (λ v. SkipsTo input.haystack near v end found) from
+    (subst (λ v. SkipsTo v near start end found) same to))
 
 -- what a prefilter needs to know of a search
-module _ (p : Pattern) (needles : List (List ℕ)) (input : Input) (has : p.prefilter ≡ Some needles)
-    (lazy : IsLazy (forward_engine p.regex)) (begins : BeginsAtNeedle (forward_engine p.regex) needles)
+module _ (p : Pattern) (near : NearNeedles) (input : Input) (has : p.prefilter ≡ Some near)
+    (lazy : IsLazy (forward_engine p.regex)) (begins : BeginsNearNeedle (forward_engine p.regex) near)
     (valid : IsValidInput input) (free : input.anchored ≡ No) (undone : input.start ≤ input.end) where
-  pub skips_all : SkipsTo input.haystack needles input.start input.end None → IsNarrowed p input None
+  pub skips_all : SkipsTo input.haystack near input.start input.end None → IsNarrowed p input None
   skips_all none = (
     λ no. absurd (cc),
     record {
@@ -73,7 +73,7 @@ module _ (p : Pattern) (needles : List (List ℕ)) (input : Input) (has : p.pref
   )
 
   pub skips_to :
-      (at : ℕ) → SkipsTo input.haystack needles input.start input.end (Some at)
+      (at : ℕ) → SkipsTo input.haystack near input.start input.end (Some at)
       → HasPrefilter p × MaySkipTo (forward_engine p.regex) input at
   skips_to at to = (
     λ no. absurd (cc),
@@ -293,23 +293,23 @@ found_nothing p hay start bytes b o res is for =
     find_means p.regex o res is hay for bytes start None (span_none p (rest_from hay start) b)
 
 pub truth_is_from :
-    (p : Pattern) (hay : List ℕ) (at : ℕ) (input : Input) (r : Result Bool SearchError)
-    → input ≡ rest_from hay at → IsHaystack input.haystack → IsBegin p (rest_from hay 0) (Some at)
+    (p : Pattern) (hay : List ℕ) (start at : ℕ) (input : Input) (r : Result Bool SearchError)
+    → input ≡ rest_from hay at → IsHaystack input.haystack → IsBegin p (rest_from hay start) (Some at)
     → IsTruthOf p.regex input r
     → IfOk r (λ truth. (o : Options) (res : List Re) → IsRegexOf o res p.regex → IsFor o hay
-    → truth ≡ is_some (find_any o.utf8 res hay 0))
-truth_is_from p hay at input (Err e) same bytes b h = tt
-truth_is_from p hay at input (Ok truth) same bytes b h = λ o res is for.
-    truth_is_meant p.regex o res is hay for (subst (λ (v : Input). IsHaystack v.haystack) same bytes) truth
-    (truth_from p (rest_from hay 0) at truth b
+    → truth ≡ is_some (find_any o.utf8 res hay start))
+truth_is_from p hay start at input (Err e) same bytes b h = tt
+truth_is_from p hay start at input (Ok truth) same bytes b h = λ o res is for.
+    truth_is_meant p.regex o res is hay for (subst (λ (v : Input). IsHaystack v.haystack) same bytes) start truth
+    (truth_from p (rest_from hay start) at truth b
     (subst (λ v. IsMatch (forward_engine p.regex) v truth) same (h.answer is.sound.cycles)))
 
 pub truth_nothing :
-    (p : Pattern) (hay : List ℕ) → IsHaystack hay → IsBegin p (rest_from hay 0) None
+    (p : Pattern) (hay : List ℕ) (start : ℕ) → IsHaystack hay → IsBegin p (rest_from hay start) None
     → (o : Options) (res : List Re) → IsRegexOf o res p.regex → IsFor o hay
-    → false ≡ is_some (find_any o.utf8 res hay 0)
-truth_nothing p hay bytes b o res is for =
-    truth_is_meant p.regex o res is hay for bytes false (None, span_none p (rest_from hay 0) b, refl)
+    → false ≡ is_some (find_any o.utf8 res hay start)
+truth_nothing p hay start bytes b o res is for =
+    truth_is_meant p.regex o res is hay for bytes start false (None, span_none p (rest_from hay start) b, refl)
 
 pub end_is_from :
     (p : Pattern) (hay : List ℕ) (start at : ℕ) (input : Input) (r : Result (Option HalfMatch) SearchError)

@@ -7,7 +7,8 @@ use Rattle.regex_syntax.specs.declared.Config.{Config}
 use Rattle.automata_base.specs.Nfas.Accepted.{IsChecked}
 use Rattle.automata_base.specs.Nfas.Getters.{SkipsLazily}
 use Rattle.automata_transform.specs.Nfas.AnchoredNfas.{IsAnchoredNfa}
-use Rattle.automata_transform.specs.Nfas.MergedNfas.{IsMergedNfa}
+use Rattle.automata_transform.specs.Nfas.FlattenedNfas.{IsFlattenedNfa}
+use Rattle.automata_transform.specs.Nfas.MergedNfas.{IsMergedNfa, KeepsBounds}
 use Rattle.automata_base.specs.Nfas.Nodes as ours
 use Rattle.automata_base.specs.declared.nfa.thompson.state.State.{State}
 use Rattle.automata_base.specs.declared.nfa.thompson.state.State.TheVariants.{Capture}
@@ -86,12 +87,18 @@ pub record IsMergedWithin (limit : ℕ) (nfa merged : ours.Automaton) : Type 0 w
   -- the states take no more bytes than the limit, 12 each, or none is merged
   pub small : (12 * length merged.states ≤ limit) ⊎ (merged ≡ nfa)
 
--- the second NFA is the first one, with some of its unions merged if that is within a limit, and without its lazy loop
--- if that is of no use
+-- the second NFA is the first one, with its long chains of unions flattened, with some of its unions merged if that is
+-- within a limit, and without its lazy loop if that is of no use
 pub record IsSimplified (limit : ℕ) (nfa simplified : ours.Automaton) : Type 0 where
+  -- the NFA after flattening
+  pub flat : ours.Automaton
+  -- chains of unions are flattened, or none
+  pub flattens : IsFlattenedNfa nfa flat
+  -- a search needs no more for it than before
+  pub bounds : KeepsBounds nfa flat
   -- the NFA after merging
   pub merged : ours.Automaton
-  -- some unions are merged
-  pub merges : IsMergedWithin limit nfa merged
+  -- then some unions are merged
+  pub merges : IsMergedWithin limit flat merged
   -- then the loop is left out
   pub anchors : IsAnchoredNfa merged simplified

@@ -18,7 +18,7 @@ use Rattle.regex_automata.specs.Spans.Errors.{IsNextError}
 use Rattle.regex_automata.specs.Spans.Runs.{IsNextRun, item_error}
 use Rattle.regex_automata.specs.declared.hybrid.regex.caches.Cache.{Cache}
 use Rattle.meaning.specs.Patterns.{span_input}
-use Rattle.prefilters.specs.Needles.{AllStartWith}
+use Rattle.prefilters.specs.Needles.{AllHaveNeedleNear, AllStartWith, HasNeedleNear, NearNeedles}
 use Rattle.prefilters.specs.Skipping.{MaySkipAll, MaySkipTo}
 use Rattle.patterns.specs.Attempts.{IsAnchoredRun}
 use Rattle.patterns.specs.Patterns.{AreMeanings, config_of}
@@ -33,6 +33,15 @@ AreNeedlesOf options texts needles =
 -- the others are needles of every pattern that has these needles
 abbrev pub MayReplace : (needles others : List (List ℕ)) → Type 0
 MayReplace needles others = (re : Re) → StartsWithNeedle re needles → StartsWithNeedle re others
+
+-- of every pattern whose matches begin with one of these needles, they are near the start of every match
+abbrev pub AreNearFor : (needles : List (List ℕ)) → NearNeedles → Type 0
+AreNearFor needles near = (re : Re) → StartsWithNeedle re needles → HasNeedleNear re near
+
+-- every match of each of these texts has a needle near its start
+abbrev pub HaveNeedlesNear : Options → (texts : List (List ℕ)) → NearNeedles → Type 0
+HaveNeedlesNear options texts near =
+    (res : List Re) → AreMeanings (config_of options) texts res → AllHaveNeedleNear res near
 
 -- the pattern has needles
 abbrev pub HasPrefilter : Pattern → Type 0
@@ -107,9 +116,10 @@ IsSpanSearch pattern hay start old new result =
     (ReadsNothing None old new result)
 
 -- a search for whether there is a match
-abbrev pub IsTruthSearch : Pattern → List ℕ → (old new : Cache) → Result Bool SearchError → Type 0
-IsTruthSearch pattern hay old new result =
-    IsSearchedFrom pattern hay 0
+abbrev pub IsTruthSearch :
+    Pattern → List ℕ → (start : ℕ) → (old new : Cache) → Result Bool SearchError → Type 0
+IsTruthSearch pattern hay start old new result =
+    IsSearchedFrom pattern hay start
     (λ at.
     IsTruthOf pattern.regex (rest_from hay at) result
     × IsTruthRun pattern.regex (rest_from hay at) old new (result_err result))

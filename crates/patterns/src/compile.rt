@@ -18,7 +18,7 @@ use crate::error::{Fault, PatternError};
 use crate::escapes::has_boundary_escape;
 use crate::translate::{Origin, has_unicode_look, id_of, push_states, shifted};
 use regex_automata::hybrid::dfa::Config as DfaConfig;
-use regex_automata::nfa::thompson::{Flags, NFA, State, anchored, merged};
+use regex_automata::nfa::thompson::{Flags, NFA, State, anchored, flattened, merged};
 use regex_automata::util::primitives::{PatternID, StateID};
 use regex_nfa::Nfa;
 use regex_syntax::{Config, Flags as SyntaxFlags, Parsed};
@@ -337,22 +337,24 @@ fn merged_within(nfa: NFA, limit: usize) -> Result<NFA, AllocError>
     }
 }
 
-/// Returns the NFA with its wide unions merged, if the limit leaves room for that, and without its lazy loop, if its
-/// matches begin only at the start of a haystack.
+/// Returns the NFA with its long chains of unions flattened, with its wide unions merged, if the limit leaves room for
+/// that, and without its lazy loop, if its matches begin only at the start of a haystack.
 fn simplified(nfa: NFA, limit: usize) -> Result<NFA, AllocError>
     ensures { IfOk result (IsSimplified limit nfa) }
 {
-    let merged = merged_within(nfa, limit)?;
+    let flat = flattened(&nfa)?;
+    let merged = merged_within(flat, limit)?;
     anchored(&merged)
 }
 
 /// Compiles patterns to one NFA, in which each pattern is numbered by its position in the list. It fails at the first
 /// text that is not a valid pattern, or that makes the patterns too large.
 ///
-/// After the states of the patterns come a union of their starts and a loop that skips bytes, even for one pattern. For
-/// eight patterns or more that union is merged where `merged` does so, if the size limit leaves room for 12 bytes
-/// per state: states that read bytes for several patterns at once come after the loop. No cycle of epsilon transitions
-/// passes a look-around assertion, whatever the patterns.
+/// After the states of the patterns come a union of their starts and a loop that skips bytes, even for one pattern. A
+/// pattern of 32 alternatives or more gets one union of them (`flattened`). This union, and that of the starts of eight
+/// patterns or more, is merged where `merged` does so, if the size limit leaves room for 12 bytes per state: states
+/// that read bytes for several patterns at once come after the loop. No cycle of epsilon transitions passes a
+/// look-around assertion, whatever the patterns.
 ///
 /// If all matches begin at the start of the haystack, as those of `^abc` do without the flag `m`, the loop is not used:
 /// the union is the start of unanchored searches, too. So they end where no match can follow, and not at the end of the

@@ -10,7 +10,7 @@
 //!
 //! It is proved that these find what the texts mean, by the kit's grammar and its specification of matching
 //! (`specs/Patterns.antt`; the lemmas are those of `meaning`). That these are what Rust's regex crate does is the kit's
-//! claim. Groups are parsed; the crate `captures` reports them.
+//! claim. Groups are parsed; the crate `meta` reports them.
 #![tactic(auto)]
 
 mod attempts;

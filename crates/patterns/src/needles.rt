@@ -1,14 +1,23 @@
-//! The literals with which matches of patterns begin.
+//! The literals with which matches of patterns begin, or which short matches contain.
 ghost use Rattle.std.specs.Prelude.{◌≡◌, ◌∷◌, [], IfOk, IfSome, false, map};
 ghost use Rattle.regex_extract.specs.Needles.{needles_of};
-ghost use Rattle.patterns.specs.Searches.{AreNeedlesOf, MayReplace};
+ghost use Rattle.regex_hir.specs.Meaning.{meaning};
+ghost use Rattle.prefilters.specs.Needles.{HasNeedleNear};
+ghost use Rattle.patterns.specs.Searches.{AreNearFor, AreNeedlesOf, HaveNeedlesNear, MayReplace};
 
 use crate::compile::{Options, parse};
 use crate::error::Fault;
 use match_facts::common_prefix;
 use prefilters::{Needles, Prefilter};
-use regex_extract::prefixes;
+use regex_extract::{max_len, prefixes, required};
+use regex_hir::Hir;
 use std::alloc::{AllocError, Global};
+
+/// How many bytes a match may have at most where a literal inside of it is searched for.
+const SHORT: usize = 64;
+
+/// How many bytes of a text in a row have to be letters, digits or spaces for it to have a literal inside worth a search.
+const LITERAL: usize = 3;
 
 /// Returns the literals with one of which every match of a text begins, if there are such.
 fn needles_of_text(alloc: Global, text: &str, options: &Options) -> Result<Option<Needles>, Fault>
@@ -36,13 +45,14 @@ fn needles_of(alloc: Global, texts: &[&str], options: &Options) -> Result<Option
     Ok(Some(needles))
 }
 
-/// Whether a search for needles pays: for one, or for two that begin with different bytes. More of them are looked up
-/// in tables, which takes longer than a lazy DFA does, unless the processor can look up sixteen bytes at once.
+/// Whether a search for needles pays: for one, for two that begin with different bytes, and for more if they have no
+/// common prefix, and at least two bytes each.
 fn is_fast(needles: &[Vec<u8>]) -> bool {
     match needles.len() {
+        0 => false,
         1 => true,
         2 => needles[0].first() != needles[1].first(),
-        _ => false,
+        _ => common_prefix(needles).is_empty() && needles.iter().all(|needle| needle.len() > 1),
     }
 }
 
@@ -62,32 +72,110 @@ fn common_needle(alloc: Global, needles: &[Vec<u8>]) -> Result<Option<Needles>, 
 
 /// Returns the search for needles if it pays, and otherwise that for their longest common prefix, unless it is empty.
 fn fast_prefilter(alloc: Global, needles: Needles) -> Result<Option<Prefilter>, AllocError>
-    ensures { IfOk result (λ o. IfSome o (MayReplace (needles_of needles))) }
+    ensures { IfOk result (λ o. IfSome o (AreNearFor (needles_of needles))) }
 {
     if is_fast(&needles) {
-        return Prefilter::new(alloc, needles);
+        return Prefilter::new(alloc, needles, 0);
     }
     match common_needle(alloc, &needles) {
-        Ok(Some(only)) => Prefilter::new(alloc, only),
+        Ok(Some(only)) => Prefilter::new(alloc, only, 0),
         Ok(None) => Ok(None),
         Err(error) => Err(error),
     }
 }
 
-/// Returns a search for literals with one of which every match of these texts begins, if there is one that pays. There
+/// Returns a search for literals with one of which every match of these texts begins, if there is one that pays, and
+/// memory for it.
+fn prefix_prefilter(alloc: Global, texts: &[&str], options: &Options) -> Option<Prefilter>
+    ensures { IfSome result (HaveNeedlesNear options.now (map (λ text. text.now) texts.now)) }
+{
+    match needles_of(alloc, texts, options) {
+        Ok(Some(needles)) => match fast_prefilter(alloc, needles) {
+            Ok(prefilter) => prefilter,
+            Err(_) => None,
+        },
+        _ => None,
+    }
+}
+
+/// Whether a text may have a literal inside of short matches that is worth a search, at a glance: a row of letters,
+/// digits or spaces, and no repetition without a bound.
+fn may_have_inner(text: &str) -> bool {
+    let mut row = 0usize;
+    let mut longest = 0;
+    for byte in text.as_bytes() {
+        if matches!(*byte, b'*' | b'+') {
+            return false;
+        }
+        row = if byte.is_ascii_alphanumeric() || *byte == b' ' {
+            row.saturating_add(1)
+        } else {
+            0
+        };
+        if row > longest {
+            longest = row;
+        }
+    }
+    longest >= LITERAL
+}
+
+/// Whether a search for literals inside of matches pays: none is too short.
+fn is_fast_inside(needles: &[Vec<u8>]) -> bool {
+    is_fast(needles) && needles.iter().all(|needle| needle.len() >= LITERAL)
+}
+
+/// Returns a search for literals one of which every match of a tree contains, if the matches are short and it pays.
+fn inner_of(alloc: Global, hir: &Hir) -> Result<Option<Prefilter>, AllocError>
+    ensures { IfOk result (λ o. IfSome o (HasNeedleNear (meaning hir.now))) }
+{
+    let most = match max_len(hir) {
+        Some(most) if most <= SHORT => most,
+        _ => return Ok(None),
+    };
+    match required(alloc, hir) {
+        Ok(Some(needles)) if is_fast_inside(&needles) => Prefilter::for_inner(alloc, needles, most),
+        Ok(_) => Ok(None),
+        Err(error) => Err(error),
+    }
+}
+
+/// Returns a search for literals one of which every match of a text contains, if the matches are short and it pays.
+fn inner_prefilter(alloc: Global, text: &str, options: &Options) -> Result<Option<Prefilter>, Fault>
+    ensures { IfOk result (λ o. IfSome o (HaveNeedlesNear options.now (text.now ∷ []))) }
+{
+    let parsed = parse(alloc, text, options)?;
+    match inner_of(alloc, &parsed.hir) {
+        Ok(prefilter) => Ok(prefilter),
+        Err(error) => Err(Fault::from(error)),
+    }
+}
+
+/// Returns a search for literals near the start of every match of these texts, if there is one that pays: literals with
+/// which matches begin, if `begins` says that these are few, or, of one text, literals that short matches contain. There
 /// is none either if memory runs out, since searches do without it.
 ///
 /// If the text is ASCII, there is none: a Unicode word boundary does not mean the same over other text, where a search
 /// for it is not promised to find anything, but one for another pattern is.
-pub(crate) fn prefilter_of(alloc: Global, texts: &[&str], options: &Options) -> Option<Prefilter>
-    ensures needles { IfSome result (AreNeedlesOf options.now (map (λ text. text.now) texts.now)) }
+pub(crate) fn prefilter_of(
+    alloc: Global,
+    texts: &[&str],
+    options: &Options,
+    begins: bool,
+) -> Option<Prefilter>
+    ensures needles { IfSome result (HaveNeedlesNear options.now (map (λ text. text.now) texts.now)) }
     ensures ascii { IfSome result (λ _. options.now.ascii ≡ false) }
 {
     if options.ascii {
         return None;
     }
-    match needles_of(alloc, texts, options) {
-        Ok(Some(needles)) => match fast_prefilter(alloc, needles) {
+    if begins {
+        let found = prefix_prefilter(alloc, texts, options);
+        if found.is_some() {
+            return found;
+        }
+    }
+    match texts {
+        [text] if may_have_inner(text) => match inner_prefilter(alloc, text, options) {
             Ok(prefilter) => prefilter,
             Err(_) => None,
         },

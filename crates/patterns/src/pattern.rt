@@ -14,7 +14,7 @@ ghost use Rattle.regex_automata.specs.Regexes.Builds.{BuildsOne, IsBuildError};
 ghost use Rattle.regex_automata.specs.Regexes.Caches.{AreFresh};
 ghost use Rattle.meaning.specs.Patterns.{end_of, find_any, numbered_match, span_input};
 ghost use Rattle.prefilters.specs.FirstBytes.{BeginsAtFirstByte};
-ghost use Rattle.prefilters.specs.Needles.{BeginsAtNeedle};
+ghost use Rattle.prefilters.specs.Needles.{BeginsNearNeedle, NearNeedles};
 ghost use Rattle.prefilters.specs.Skipping.{IsLazy};
 ghost use Rattle.patterns.specs.Faults.{IsPatternFault};
 ghost use Rattle.patterns.specs.Patterns.{IsBuiltOf, IsFor, IsJoinedNfa, IsNfaOf, IsRegexOfTexts, IsRegexOf};
@@ -46,8 +46,8 @@ pub struct Pattern {
     prefilter: Option<Prefilter>,
     first_bytes: Option<FirstBytes>,
     attempts: bool,
-    ghost begins: { (needles : List (List ℕ)) → prefilter ≡ Some needles
-        → BeginsAtNeedle (forward_engine regex) needles },
+    ghost begins: { (near : NearNeedles) → prefilter ≡ Some near
+        → BeginsNearNeedle (forward_engine regex) near },
     ghost first: { (table : List Bool) → first_bytes ≡ Some table
         → BeginsAtFirstByte (forward_engine regex) table },
 }
@@ -109,11 +109,11 @@ fn may_quit(regex: &Regex) -> bool {
     config.get_unicode_word_boundary() || (0..=u8::MAX).any(|byte| config.get_quit(byte))
 }
 
-/// Whether a search for needles may pay: matches begin with one byte, or with one of two. With more first bytes there are
-/// more needles, which have no common prefix.
+/// Whether a search for needles may pay: matches begin with one of at most 16 bytes. With more of them there are too
+/// many needles.
 fn may_have_needles(regex: &Regex) -> bool {
     match FirstBytes::new(regex.forward().get_nfa()) {
-        Ok(Some(bytes)) => bytes.count() <= 2,
+        Ok(Some(bytes)) => bytes.count() <= 16,
         _ => false,
     }
 }
@@ -242,7 +242,7 @@ impl Pattern {
     {
         if finds_starts(&self.regex) && !may_quit(&self.regex) {
             self.attempts = true;
-            if self.prefilter.is_none() {
+            if !self.begins_at_needles() {
                 if let Ok(bytes) = FirstBytes::new(self.regex.forward().get_nfa()) {
                     self.first_bytes = bytes;
                 }
@@ -250,10 +250,18 @@ impl Pattern {
         }
     }
 
+    /// Whether matches begin at the needles, and not only near them.
+    fn begins_at_needles(&self) -> bool {
+        match &self.prefilter {
+            Some(prefilter) => prefilter.reach() == 0,
+            None => false,
+        }
+    }
+
     /// Lets searches begin at the needles of texts, if a search for needles pays. The forward DFA must be built from
     /// the NFA that `nfa_of` returned for these texts and options; its match kind, and the reverse DFA, may be any.
     ///
-    /// There are no needles if matches can begin with more than two bytes, if offsets inside characters are skipped, if
+    /// There are no needles if matches can begin with more than 16 bytes, if offsets inside characters are skipped, if
     /// searches stop at quit bytes, or if memory runs out.
     pub fn begin_at_needles(&mut self, alloc: Global, texts: &[&str], options: &Options)
         requires { IsNfaOf options.now (map (λ text. text.now) texts.now) self.old.regex.forward.nfa }
@@ -261,8 +269,8 @@ impl Pattern {
         ensures attempts { self.new.attempts ≡ self.old.attempts }
     {
         let regex = &self.regex;
-        if !regex.forward().skips() && may_have_needles(regex) && !may_quit(regex) {
-            self.prefilter = prefilter_of(alloc, texts, options);
+        if !regex.forward().skips() && !may_quit(regex) {
+            self.prefilter = prefilter_of(alloc, texts, options, may_have_needles(regex));
         }
     }
 
@@ -300,13 +308,31 @@ impl Pattern {
     pub fn is_match(&self, cache: &mut Cache, hay: &[u8]) -> Result<bool, SearchError>
         requires { AreCachesOf cache.old self.now.regex }
         ensures of { AreCachesOf cache.new self.now.regex }
-        ensures searched { IsTruthSearch self.now hay.now cache.old cache.new result }
+        ensures searched { IsTruthSearch self.now hay.now 0 cache.old cache.new result }
         ensures found { IfOk result (λ truth. (o : options.Options) (res : List Re)
             → IsRegexOf o res self.now.regex → IsFor o hay.now
             → truth ≡ is_some (find_any o.utf8 res hay.now 0)) }
     {
-        let whole = rest(hay, 0);
-        let Some(input) = self.narrow(&whole) else {
+        self.is_match_at(cache, hay, 0)
+    }
+
+    /// Whether a match begins at `start` or later.
+    pub fn is_match_at(
+        &self,
+        cache: &mut Cache,
+        hay: &[u8],
+        start: usize,
+    ) -> Result<bool, SearchError>
+        requires of { AreCachesOf cache.old self.now.regex }
+        requires within { start ≤ length hay.now }
+        ensures of { AreCachesOf cache.new self.now.regex }
+        ensures searched { IsTruthSearch self.now hay.now start cache.old cache.new result }
+        ensures found { IfOk result (λ truth. (o : options.Options) (res : List Re)
+            → IsRegexOf o res self.now.regex → IsFor o hay.now
+            → truth ≡ is_some (find_any o.utf8 res hay.now start)) }
+    {
+        let left = rest(hay, start);
+        let Some(input) = self.narrow(&left) else {
             return Ok(false);
         };
         self.regex.is_match(cache, &input)
@@ -412,8 +438,8 @@ impl Pattern {
     }
 
     /// Returns the match after one that ended at `last`, which is not an empty match there; the first match if `last`
-    /// is none.
-    pub(crate) fn next_match(
+    /// is none. The searches of an iteration share the count of misses.
+    pub fn next_match(
         &self,
         cache: &mut Cache,
         hay: &[u8],

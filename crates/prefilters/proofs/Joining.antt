@@ -6,10 +6,12 @@ use Rattle.std.proofs.lemmas.List.Elements.{All-append}
 use Rattle.std.proofs.lemmas.List.{get_or_append_left, get_or-append-add, get_or-take, length-append, length-take}
 use Rattle.regex_class.specs.Ranges.{in_ranges}
 use Rattle.regex_hir.specs.Re.{Re}
-use Rattle.regex_extract.specs.Needles.{StandsWithin, StartsWithNeedle}
+use Rattle.regex_extract.specs.Bounds.{IsMaxLen}
+use Rattle.regex_extract.specs.Needles.{ContainsNeedle, StandsWithin, StartsWithNeedle}
 use Rattle.regex_literal.specs.Find.{AllAtMost, OccursAt, needle_at}
 use Rattle.meaning.specs.Patterns.{any_of}
-use Rattle.prefilters.specs.Needles.{AllStartWith, NoneOccurs}
+use Rattle.prefilters.specs.Needles.{AllHaveNeedleNear, AllStartWith, HasNeedleNear, NearNeedles, NoneOccurs}
+use Rattle.prefilters.specs.Needles.{ReachesAll}
 
 no_range : (b : ℕ) → in_ranges [] b ≡ true → ⊥
 unfolding in_ranges
@@ -61,13 +63,28 @@ needles_grow res more needles others a b =
     (λ i d l. starts_left (get_or res i d) needles others (a i d l))
     (λ i d l. starts_right (get_or more i d) needles others (b i d l))
 
-pub needles_join :
-    (res : List Re) (needles : List (List ℕ)) → AllStartWith res needles → StartsWithNeedle (any_of res) needles
-needles_join [] needles s hay bytes i j m = absurd (no_range m.0 m.2)
-needles_join (re ∷ []) needles s hay bytes i j m = s 0 re (omega arith) hay bytes i j m
-needles_join (re ∷ next ∷ res) needles s hay bytes i j (inl m) = s 0 re (omega arith) hay bytes i j m
-needles_join (re ∷ next ∷ res) needles s hay bytes i j (inr m) =
-    needles_join (next ∷ res) needles (λ n d l. s (suc n) d (omega (arith, l))) hay bytes i j m
+pub needles_join : (res : List Re) (near : NearNeedles) → AllHaveNeedleNear res near → HasNeedleNear (any_of res) near
+needles_join [] near s hay bytes i j m = absurd (no_range m.0 m.2)
+needles_join (re ∷ []) near s hay bytes i j m = s 0 re (omega arith) hay bytes i j m
+needles_join (re ∷ next ∷ res) near s hay bytes i j (inl m) = s 0 re (omega arith) hay bytes i j m
+needles_join (re ∷ next ∷ res) near s hay bytes i j (inr m) =
+    needles_join (next ∷ res) near (λ n d l. s (suc n) d (omega (arith, l))) hay bytes i j m
+
+pub starts_are_near :
+    (re : Re) (needles : List (List ℕ)) (reach : ℕ) → StartsWithNeedle re needles
+    → HasNeedleNear re (record { needles = needles; reach = reach })
+starts_are_near re needles reach starts hay bytes i j m =
+    let w = starts hay bytes i j m in (w.0, i, w.1, omega arith)
+
+pub inner_are_near :
+    (re : Re) (near : NearNeedles) (most : ℕ) → ContainsNeedle re near.needles → IsMaxLen re most
+    → ReachesAll near most → HasNeedleNear re near
+inner_are_near re near most contains short reaches hay bytes i j m =
+    let w = contains hay bytes i j m in
+    let ends = w.2.high in
+    let upto = short hay bytes i j m in
+    let all = reaches w.0 w.2.numbered in
+    (w.0, w.1, w.2, omega (arith, ends, upto, all))
 
 -- a needle in the haystack is one in a beginning that goes as far
 occurs_within :

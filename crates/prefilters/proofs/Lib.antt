@@ -6,3 +6,5 @@ pub mod FirstSteps
 pub mod Meaning
 pub mod Joining
 mod Skips
+mod Lanes
+mod Covering

@@ -5,7 +5,6 @@ use Rattle.std.specs.Option.{option_or}
 use Rattle.regex_hir.specs.Re.{Re, Trace, accept, attempt}
 use Rattle.regex_hir.proofs.AttemptLemmas.{attempt_none}
 use Rattle.regex_nfa.specs.declared.nfa.Nfa as kit_nfa
-use Rattle.regex_extract.specs.Needles.{StartsWithNeedle}
 use Rattle.automata_base.specs.Haystacks.Matches.{HalfMatch}
 use Rattle.automata_base.specs.Haystacks.Tapes.{IsHaystack, forward_tape}
 use Rattle.automata_base.proofs.Answers.Alike.{path_alike, forward_alike}
@@ -18,7 +17,7 @@ use Rattle.meaning.proofs.Options.{half_of}
 use Rattle.meaning.proofs.Unions.{found_of, union_finds}
 use Rattle.automata_base.specs.Nfas.Engines.{Engine}
 use Rattle.regex_hir.specs.Matches.{Matches}
-use Rattle.prefilters.specs.Needles.{NoneOccurs}
+use Rattle.prefilters.specs.Needles.{HasNeedleNear, NearNeedles, NoneIsNear}
 use Rattle.prefilters.specs.Skipping.{NoneBeginsAt}
 
 all_bytes : (hay : List ℕ) → IsHaystack hay → All (λ b. b < 256) hay
@@ -27,10 +26,12 @@ all_bytes (x ∷ xs) bytes zero d l = bytes 0 x refl
 all_bytes (x ∷ xs) bytes (suc i) d l = all_bytes xs (λ o u e. bytes (suc o) u e) i d (omega (arith, l))
 
 pub needles_none :
-    (re : Re) (needles : List (List ℕ)) (hay : List ℕ) (s p : ℕ) → StartsWithNeedle re needles → IsHaystack hay
-    → NoneOccurs hay needles s p → (o j : ℕ) → s ≤ o → o < p → Matches hay re o j → ⊥
-needles_none re needles hay s p starts bytes nowhere o j l k m =
-    let w = starts hay (all_bytes hay bytes) o j m in nowhere o l k (w.0, w.1.numbered, w.1.occurs)
+    (re : Re) (near : NearNeedles) (hay : List ℕ) (s p : ℕ) → HasNeedleNear re near → IsHaystack hay
+    → NoneIsNear hay near s p → (o j : ℕ) → s ≤ o → o < p → Matches hay re o j → ⊥
+needles_none re near hay s p has bytes nowhere o j l k m =
+    let w = has hay (all_bytes hay bytes) o j m in
+    let within = w.3 in
+    nowhere o l k w.1 w.2.low (omega (arith, within)) (w.0, w.2.numbered, w.2.occurs)
 
 -- a path over a shorter span is one over a longer one
 pub none_shorter :

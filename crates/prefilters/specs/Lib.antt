@@ -1,3 +1,5 @@
 pub mod Skipping
 pub mod Needles
 pub mod FirstBytes
+pub mod Pairs
+pub mod NeedleSearches

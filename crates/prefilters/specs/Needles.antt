@@ -1,11 +1,12 @@
--- Needles, literals with one of which every match begins: where none occurs, no match begins.
+-- Needles, literals one of which every match has at its start or near it: where none occurs, no match begins.
 use Rattle.std.specs.Prelude.{ℕ, suc, ◌<◌, ◌≤◌, ◌+◌, ◌++◌, ◌⊎◌, Bool, List, All, length, take}
 use Rattle.std.specs.Prelude.{Option, None, Some}
 use Rattle.regex_hir.specs.Matches.{Matches}
 use Rattle.regex_hir.specs.Re.{Re}
 use Rattle.regex_nfa.specs.declared.nfa.Nfa as kit_nfa
-use Rattle.regex_extract.specs.Needles.{StartsWithNeedle}
-use Rattle.regex_literal.specs.Find.{AllAtMost, AnyOccursAt, Nowhere}
+use Rattle.regex_extract.specs.Bounds.{IsMaxLen}
+use Rattle.regex_extract.specs.Needles.{ContainsNeedle, StandsWithin, StartsWithNeedle}
+use Rattle.regex_literal.specs.Find.{AllAtMost, AnyOccursAt, Nowhere, needle_at}
 use Rattle.automata_base.specs.Haystacks.Tapes.{IsHaystack}
 use Rattle.automata_base.specs.Nfas.Engines.{Engine}
 use Rattle.meaning.specs.Agreeing.{Each, HasSameLooks, ImplementAll}
@@ -17,25 +18,69 @@ use Rattle.prefilters.specs.Skipping.{NoneBegins, NoneBeginsAt}
 abbrev pub NoneOccurs : List ℕ → (needles : List (List ℕ)) → (s p : ℕ) → Type 0
 NoneOccurs hay needles s p = Nowhere (AnyOccursAt hay needles) s p
 
--- the first offset from `s` to `e` at which a needle may occur, as none occurs before it; or None
-abbrev pub SkipsTo : List ℕ → (needles : List (List ℕ)) → (s e : ℕ) → Option ℕ → Type 0
-SkipsTo hay needles s e None = NoneOccurs hay needles s (suc e)
-SkipsTo hay needles s e (Some p) = (s ≤ p) × (p ≤ e) × NoneOccurs hay needles s p
+-- an offset from `s` to `e` before which no needle occurs; or None if none occurs up to `e`
+abbrev pub StopsBeforeNeedle : List ℕ → (needles : List (List ℕ)) → (s e : ℕ) → Option ℕ → Type 0
+StopsBeforeNeedle hay needles s e None = NoneOccurs hay needles s (suc e)
+StopsBeforeNeedle hay needles s e (Some p) = (s ≤ p) × (p ≤ e) × NoneOccurs hay needles s p
+
+-- needles, and how many bytes after the start of a match one of them begins at most
+pub record NearNeedles : Type 0 where
+  -- the needles
+  pub needles : List (List ℕ)
+  -- the number of bytes
+  pub reach : ℕ
+
+-- at no offset from `s` to before offset `p` of the haystack, nor within reach after it, a needle occurs
+abbrev pub NoneIsNear : List ℕ → NearNeedles → (s p : ℕ) → Type 0
+NoneIsNear hay near s p = (o : ℕ) → s ≤ o → o < p → NoneOccurs hay near.needles o (suc (o + near.reach))
+
+-- the first offset from `s` to `e` where a needle may be near, as none is near before it; or None
+abbrev pub SkipsTo : List ℕ → NearNeedles → (s e : ℕ) → Option ℕ → Type 0
+SkipsTo hay near s e None = NoneIsNear hay near s (suc e)
+SkipsTo hay near s e (Some p) = (s ≤ p) × (p ≤ e) × NoneIsNear hay near s p
+
+-- every match has a needle that begins within reach of the start of the match
+abbrev pub HasNeedleNear : Re → NearNeedles → Type 0
+HasNeedleNear re near =
+    (hay : List ℕ) → All (λ b. b < 256) hay → (i j : ℕ) → Matches hay re i j
+    → (n k : ℕ) × StandsWithin hay near.needles n k i j × (k ≤ i + near.reach)
 
 -- every match of each of these patterns begins with one of these needles
 abbrev pub AllStartWith : List Re → (needles : List (List ℕ)) → Type 0
 AllStartWith res needles = All (λ re. StartsWithNeedle re needles) res
 
--- where no needle occurs, no match begins, wherever the span ends
-abbrev pub BeginsAtNeedle : Engine → (needles : List (List ℕ)) → Type 0
-BeginsAtNeedle d needles =
-    (hay : List ℕ) (e s p : ℕ) → IsHaystack hay → e ≤ length hay → p ≤ suc e → NoneOccurs hay needles s p
+-- every match of each of these patterns has a needle near its start
+abbrev pub AllHaveNeedleNear : List Re → NearNeedles → Type 0
+AllHaveNeedleNear res near = All (λ re. HasNeedleNear re near) res
+
+-- the reach and each needle have `most` bytes together: in a match of at most that length a needle is near its start
+abbrev pub ReachesAll : NearNeedles → (most : ℕ) → Type 0
+ReachesAll near most =
+    (n : ℕ) → n < length near.needles → most ≤ near.reach + length (needle_at near.needles n)
+
+-- where no needle is near, no match begins, wherever the span ends
+abbrev pub BeginsNearNeedle : Engine → NearNeedles → Type 0
+BeginsNearNeedle d near =
+    (hay : List ℕ) (e s p : ℕ) → IsHaystack hay → e ≤ length hay → p ≤ suc e → NoneIsNear hay near s p
     → NoneBegins d hay e s p
 
--- If every match of each pattern begins with a needle, so does every match of their alternation.
+-- If every match of each pattern has a needle near its start, so does every match of their alternation.
 abbrev pub NeedlesJoin : Type 0
 NeedlesJoin =
-    (res : List Re) (needles : List (List ℕ)) → AllStartWith res needles → StartsWithNeedle (any_of res) needles
+    (res : List Re) (near : NearNeedles) → AllHaveNeedleNear res near → HasNeedleNear (any_of res) near
+
+-- A needle with which a match begins is near its start.
+abbrev pub StartsAreNear : Type 0
+StartsAreNear =
+    (re : Re) (needles : List (List ℕ)) (reach : ℕ) → StartsWithNeedle re needles
+    → HasNeedleNear re (record { needles = needles; reach = reach })
+
+-- If no match has more than `most` bytes, a needle that each match contains is as near to its start as the length of
+-- the needle allows.
+abbrev pub InnerAreNear : Type 0
+InnerAreNear =
+    (re : Re) (near : NearNeedles) (most : ℕ) → ContainsNeedle re near.needles → IsMaxLen re most
+    → ReachesAll near most → HasNeedleNear re near
 
 -- More needles may be added.
 abbrev pub NeedlesGrow : Type 0
@@ -43,11 +88,11 @@ NeedlesGrow =
     (res more : List Re) (needles others : List (List ℕ)) → AllStartWith res needles → AllStartWith more others
     → AllStartWith (res ++ more) (needles ++ others)
 
--- If every match begins with a needle, none begins where no needle occurs, in whatever way it matches.
+-- If every match has a needle near its start, none begins where no needle is near, in whatever way it matches.
 abbrev pub NeedlesMeanNone : Type 0
 NeedlesMeanNone =
-    (re : Re) (needles : List (List ℕ)) (hay : List ℕ) (s p : ℕ) → StartsWithNeedle re needles → IsHaystack hay
-    → NoneOccurs hay needles s p → (o j : ℕ) → s ≤ o → o < p → Matches hay re o j → ⊥
+    (re : Re) (near : NearNeedles) (hay : List ℕ) (s p : ℕ) → HasNeedleNear re near → IsHaystack hay
+    → NoneIsNear hay near s p → (o j : ℕ) → s ≤ o → o < p → Matches hay re o j → ⊥
 
 -- Where no match of the alternation begins, no match of the joined NFA begins, wherever the span ends.
 abbrev pub MeaningBeginsNone : Type 0

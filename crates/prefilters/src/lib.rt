@@ -11,6 +11,7 @@
 
 mod first_bytes;
 pub mod laws;
+mod pairs;
 mod prefilter;
 mod threads;
 

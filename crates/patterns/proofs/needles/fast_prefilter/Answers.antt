@@ -1,16 +1,17 @@
 use Rattle.std.proofs.Common.{IfSome, map, subst}
 use Rattle.regex_extract.specs.Needles.{needles_of}
 use Rattle.patterns.specs.Searches.{MayReplace}
-use Rattle.patterns.proofs.Beginnings.{replaced}
+use Rattle.patterns.proofs.Beginnings.{built_near}
 use Rattle.patterns.proofs.needles.fast_prefilter.Goals as goal
 
 pub returns-then-is_fast : goal.returns-then-is_fast
 returns-then-is_fast c =
-    replaced (needles_of c.args.needles) (needles_of c.args.needles) c.new.result c.new.ensures (λ re starts. starts)
+    built_near (needles_of c.args.needles) (needles_of c.args.needles) c.new.result c.new.ensures (λ re starts. starts)
 
 pub returns-in-Ok-Some : goal.returns-in-Ok-Some
 returns-in-Ok-Some c =
-    replaced (needles_of c.args.needles) (needles_of c.in-Ok-Some.only) c.new-in-Ok-Some.result c.new-in-Ok-Some.ensures
+    built_near (needles_of c.args.needles) (needles_of c.in-Ok-Some.only) c.new-in-Ok-Some.result
+    c.new-in-Ok-Some.ensures
     (subst (λ vs. MayReplace (map (λ v. v.items) vs) (needles_of c.in-Ok-Some.only)) c.deref-2.ensures.value
     (subst (λ o. IfSome o (λ v. MayReplace (map (λ n. n.items) c.deref-2.result.now) (needles_of v)))
     c.in-Ok-Some.field-0-is c.in-Ok-Some.ensures))

@@ -1,6 +1,12 @@
-use Rattle.prefilters.proofs.Joining.{beginnings, needles_grow, needles_join}
+use Rattle.prefilters.proofs.Joining.{beginnings, inner_are_near, needles_grow, needles_join, starts_are_near}
 use Rattle.prefilters.proofs.Meaning.{meaning_none, needles_none}
 use Rattle.prefilters.proofs.laws.needles_may_skip.Goals as goal
+
+pub returns-clause-starts : goal.returns-clause-starts
+returns-clause-starts c = starts_are_near
+
+pub returns-clause-inner : goal.returns-clause-inner
+returns-clause-inner c = inner_are_near
 
 pub returns-clause-needles : goal.returns-clause-needles
 returns-clause-needles c = needles_none

@@ -6,8 +6,8 @@ use Rattle.prefilters.specs.FirstBytes.{BeginsAtFirstByte}
 use Rattle.patterns.proofs.Items.{given}
 use Rattle.patterns.proofs.pattern.Pattern.try_first_bytes.Goals as goal
 
-pub invariant_of-self : goal.invariant_of-self
-invariant_of-self c = record {
+pub invariant_of-self-in-Ok : goal.invariant_of-self-in-Ok
+invariant_of-self-in-Ok c = record {
   begins = λ needles e. c.args.self.now.begins needles e;
   first =
       λ table e.

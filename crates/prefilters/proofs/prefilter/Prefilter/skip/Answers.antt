@@ -1,30 +1,42 @@
-use Rattle.std.proofs.Common.{◌+◌, Some, ap, subst, suc}
-use Rattle.prefilters.specs.Needles.{NoneOccurs, SkipsTo}
-use Rattle.prefilters.proofs.Skips.{inside, missing, past}
+use Rattle.std.proofs.Common.{◌+◌, None, Some, ap, arith, subst}
+use Rattle.prefilters.specs.NeedleSearches.{needles_in}
+use Rattle.prefilters.specs.Needles.{SkipsTo}
+use Rattle.prefilters.proofs.Skips.{beyond, far_enough, inside, missing}
 use Rattle.prefilters.proofs.prefilter.Prefilter.skip.Goals as goal
 
 pub returns-in_default : goal.returns-in_default
 returns-in_default c =
-    subst (λ needles. NoneOccurs c.args.hay.now needles c.args.start (suc c.args.end)) c.self.view_is
-    (missing c.self.inside.search c.args.hay.now c.self.inside.longest c.args.end (c.args.end + c.min.result)
-    c.self.invariant c.requires.within (ap (λ n. c.args.end + n) c.min.ensures) c.args.start
-    c.reached.result c.in_default.not-Some
-    (c.reached.ensures _ _ _ c.find_bounded.ensures.bounded))
+    subst (λ near. SkipsTo c.args.hay.now near c.args.start c.args.end None) c.self.view_is
+    (missing (record { needles = needles_in c.self.inside.search; reach = c.self.inside.reach }) c.args.hay.now
+    c.self.inside.longest c.saturating_add-past.result c.args.end (c.args.end + c.min.result) c.self.invariant
+    c.requires.within
+    (far_enough c.self.inside.longest c.self.inside.reach c.saturating_add-past.result _ c.saturating_add-past.ensures
+    (omega arith))
+    (ap (λ n. c.args.end + n) c.min.ensures) c.args.start c.find.result c.in_default.not-Some
+    c.find.ensures)
 
-pub returns-then-at-end : goal.returns-then-at-end
-returns-then-at-end c =
-    subst (λ needles. NoneOccurs c.args.hay.now needles c.args.start (suc c.args.end)) c.self.view_is
-    (past c.self.inside.search c.args.hay.now c.self.inside.longest c.args.end (c.args.end + c.min.result)
-    c.self.invariant c.requires.within (ap (λ n. c.args.end + n) c.min.ensures) c.args.start
-    c.in-Some.at c.reached.result
-    c.in-Some.is c.if-at-end.true
-    (c.reached.ensures _ _ _ c.find_bounded.ensures.bounded))
+pub returns-then-first-end : goal.returns-then-first-end
+returns-then-first-end c =
+    subst (λ near. SkipsTo c.args.hay.now near c.args.start c.args.end None) c.self.view_is
+    (beyond (record { needles = needles_in c.self.inside.search; reach = c.self.inside.reach }) c.args.hay.now
+    c.self.inside.longest c.saturating_add-past.result c.args.end (c.args.end + c.min.result) c.self.invariant
+    c.requires.within
+    (far_enough c.self.inside.longest c.self.inside.reach c.saturating_add-past.result _ c.saturating_add-past.ensures
+    (omega arith))
+    (ap (λ n. c.args.end + n) c.min.ensures) c.args.start c.in-Some.at c.find.result c.in-Some.is
+    (let less = c.if-first-end.true in let is = c.saturating_sub-first.ensures in omega (arith, less, is))
+    c.find.ensures)
 
-pub returns-else-at-end : goal.returns-else-at-end
-returns-else-at-end c =
-    subst (λ needles. SkipsTo c.args.hay.now needles c.args.start c.args.end (Some c.in-Some.at)) c.self.view_is
-    (inside c.self.inside.search c.args.hay.now c.self.inside.longest c.args.end (c.args.end + c.min.result)
-    c.self.invariant c.requires.within (ap (λ n. c.args.end + n) c.min.ensures) c.args.start
-    c.in-Some.at c.reached.result
-    c.in-Some.is c.if-at-end.false
-    (c.reached.ensures _ _ _ c.find_bounded.ensures.bounded))
+pub returns-else-first-end : goal.returns-else-first-end
+returns-else-first-end c =
+    subst (λ near. SkipsTo c.args.hay.now near c.args.start c.args.end (Some c.max.result)) c.self.view_is
+    (inside (record { needles = needles_in c.self.inside.search; reach = c.self.inside.reach }) c.args.hay.now
+    c.self.inside.longest c.saturating_add-past.result c.args.end (c.args.end + c.min.result) c.self.invariant
+    c.requires.within
+    (far_enough c.self.inside.longest c.self.inside.reach c.saturating_add-past.result _ c.saturating_add-past.ensures
+    (omega arith))
+    (ap (λ n. c.args.end + n) c.min.ensures) c.args.start c.in-Some.at c.max.result c.find.result c.in-Some.is
+    c.requires.span
+    (let less = c.if-first-end.false in let is = c.saturating_sub-first.ensures in omega (arith, less, is))
+    (let most = c.max.ensures in let is = c.saturating_sub-first.ensures in omega (arith, most, is))
+    c.find.ensures)
