@@ -1,6 +1,0 @@
-mod Found
-mod Held
-mod Programs
-mod Rooms
-mod Simulating
-mod Slots

@@ -1,0 +1,12 @@
+mod Answering
+mod Compiled
+mod Following
+mod Found
+mod Held
+mod Items
+mod Leftmost
+mod Refusing
+mod Rooms
+mod Simulating
+mod Slots
+mod Starting

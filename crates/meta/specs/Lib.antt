@@ -1,0 +1,10 @@
+pub mod Caches
+pub mod Captures
+pub mod Groups
+pub mod Iteration
+pub mod Laws
+pub mod Names
+pub mod Programs
+pub mod Regexes
+pub mod Simulations
+pub mod Slots
