@@ -19,6 +19,12 @@
 #define SMALL_TABLES 40960
 #define SHORTEST_PIECE 16
 
+/* The bytes that a cache takes for groups: of each state some, and more for each group. A state takes at least
+   STATE_SIZE bytes of the tables. */
+#define STATE_SIZE 16
+#define HELD_STEP 52
+#define HELD_SLOTS 32
+
 /* Returns the SQLSTATE of a status. */
 static int sqlstate_of(uint32_t code) {
     switch (code) {
@@ -117,6 +123,7 @@ lazydfa_options text_options(uint32 flags) {
     options.bytes = (flags & READS_BYTES) || GetDatabaseEncoding() != PG_UTF8;
     options.nest_limit = NEST_LIMIT;
     options.forward_only = (flags & ENDS_ONLY) != 0;
+    options.groups = (flags & HAS_GROUPS) != 0;
     options.text_limit = setting_pattern_length;
     options.class_limit = setting_pattern_classes;
     options.zeros = LAZYDFA_ZERO_CLASS_LIMIT;
@@ -141,6 +148,19 @@ static bool read_source(Source *source, const Key *key) {
     return source->texts != NULL;
 }
 
+/* Reports an error if a cache would take too much memory for the groups of its pattern: more than its states may. */
+static void limit_groups(const Kept *kept, const Source *source) {
+    size_t limit = source->options.cache_limit * 2; /* it is that of one direction */
+    double needed = (double)kept->size / STATE_SIZE * (HELD_STEP + HELD_SLOTS * (double)kept->groups);
+    if (needed <= limit) return;
+    ereport(ERROR, errcode(ERRCODE_PROGRAM_LIMIT_EXCEEDED),
+            errmsg("regular expression is too large for its groups to be reported"),
+            errdetail("The memory for its %zu groups is %.0f kB, and %zu kB are allowed.", kept->groups - 1,
+                      needed / 1024, limit / 1024),
+            errhint("Write (?:..) for groups that are not reported, or raise lazydfa.pattern_cache_size and "
+                    "lazydfa.cache_size."));
+}
+
 /* Opens a regex and its cache. */
 static lazydfa_status open_regex(Kept *kept, Source *source) {
     lazydfa_status status;
@@ -148,6 +168,10 @@ static lazydfa_status open_regex(Kept *kept, Source *source) {
     status = lazydfa_regex_any_of(&kept->regex, source->texts, source->count, &source->options, &source->error);
     CHECK_FOR_INTERRUPTS();
     if (status.code == LAZYDFA_OK) status = lazydfa_regex_size(&kept->regex, &kept->size);
+    if (status.code == LAZYDFA_OK && source->options.groups) {
+        status = lazydfa_group_count(&kept->regex, 0, &kept->groups);
+        if (status.code == LAZYDFA_OK) limit_groups(kept, source);
+    }
     return status.code == LAZYDFA_OK ? lazydfa_cache_new(&kept->cache, &kept->regex) : status;
 }
 

@@ -12,10 +12,11 @@
 
 #define BUCKETS 1024
 
-/* An upper bound on what tables hold from malloc: bytes per byte of their size, for one direction and for both, and a
-   constant. Every kind of pattern that was measured takes less, often half. */
+/* An upper bound on what tables hold from malloc: bytes per byte of their size, for one direction and for both, and for
+   groups in addition, and a constant. Every kind of pattern that was measured takes less, often half. */
 #define HELD_FORWARD 6
 #define HELD_BOTH 13
+#define HELD_GROUPS 3
 #define HELD_BESIDE 14000
 
 /* Searching a byte adds at most one state in each direction: a row of transitions, up to 1 kB, and the state's NFA
@@ -93,7 +94,9 @@ static lazydfa_usage usage_of(Kept *kept) {
 
 /* Returns an upper bound on the bytes that the tables of patterns, and their texts, hold. */
 static size_t tables_of(const Kept *kept) {
-    return kept->size * (kept->key.flags & ENDS_ONLY ? HELD_FORWARD : HELD_BOTH) + HELD_BESIDE + kept->key.length;
+    size_t most = kept->key.flags & ENDS_ONLY ? HELD_FORWARD : HELD_BOTH;
+    if (kept->key.flags & HAS_GROUPS) most += HELD_GROUPS;
+    return kept->size * most + HELD_BESIDE + kept->key.length;
 }
 
 /* Counts the bytes that patterns hold. */
@@ -198,7 +201,8 @@ Kept *kept_of_call(FunctionCallInfo fcinfo, Site *site, uint32 flags) {
         site->is_constant = site->key.bytes || is_constant(fcinfo->flinfo->fn_expr);
     }
     if (site->is_refused) return NULL;
-    if (!(site->is_constant && site->kept && site->kept->generation == site->generation))
+    if (!(site->is_constant && site->kept && site->kept->generation == site->generation &&
+          site->kept->key.flags == flags))
         find_patterns(fcinfo, site, flags);
     /* A search that was cancelled has not been counted yet. */
     if (in_use && in_use->key.bytes) count(in_use);

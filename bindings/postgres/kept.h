@@ -17,7 +17,8 @@ enum {
     IS_LIST = 2,     /* they are an array of texts, not one text */
     FINDS_ALL = 4,   /* all of them are searched for, not only the preferred one */
     READS_BYTES = 8, /* they are searched for in a bytea */
-    ENDS_ONLY = 16   /* no search reports the start of a match */
+    ENDS_ONLY = 16,  /* no search reports the start of a match */
+    HAS_GROUPS = 32  /* the groups of a match are reported */
 };
 
 /* The patterns of an argument, which are one text or an array of texts as it is in memory, and how they are
@@ -36,6 +37,7 @@ typedef struct {
     uint64 generation;   /* increases when they are freed */
     Key key;             /* a copy; its bytes are NULL if no patterns are kept here */
     size_t count;        /* the number of patterns */
+    size_t groups;       /* how many groups the pattern has, with group 0, if it HAS_GROUPS */
     size_t size;         /* the size of the regex's tables, as lazydfa.pattern_size limits it */
     size_t piece;        /* how many bytes of a value are searched before the query can be cancelled */
     bool skips;          /* searches skip empty matches inside a character */

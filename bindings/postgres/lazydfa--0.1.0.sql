@@ -60,13 +60,25 @@ CREATE FUNCTION lazydfa_find(string text, pattern text, OUT start_at int, OUT en
 CREATE FUNCTION lazydfa_substr(string text, pattern text) RETURNS text
     AS 'MODULE_PATHNAME', 'lazydfa_pg_substr' LANGUAGE C IMMUTABLE STRICT PARALLEL SAFE COST 10;
 
--- All matches that do not overlap: their texts, their number, and the text with each of them replaced.
+-- The groups of the first match, from group 1 on, or the match if there are none; null without a match.
+
+CREATE FUNCTION lazydfa_captures(string text, pattern text) RETURNS text[]
+    AS 'MODULE_PATHNAME', 'lazydfa_pg_captures' LANGUAGE C IMMUTABLE STRICT PARALLEL SAFE COST 20;
+
+-- All matches that do not overlap: their texts, their number, and the parts between them.
 
 CREATE FUNCTION lazydfa_matches(string text, pattern text) RETURNS SETOF text
     AS 'MODULE_PATHNAME', 'lazydfa_pg_matches' LANGUAGE C IMMUTABLE STRICT PARALLEL SAFE COST 10 ROWS 10;
 CREATE FUNCTION lazydfa_count(string text, pattern text) RETURNS bigint
     AS 'MODULE_PATHNAME', 'lazydfa_pg_count' LANGUAGE C IMMUTABLE STRICT PARALLEL SAFE COST 20;
+CREATE FUNCTION lazydfa_split(string text, pattern text) RETURNS text[]
+    AS 'MODULE_PATHNAME', 'lazydfa_pg_split' LANGUAGE C IMMUTABLE STRICT PARALLEL SAFE COST 20;
+
+-- The text with the first match replaced, or all of them: \1 to \9 in the replacement are groups, and \& is the match.
+
 CREATE FUNCTION lazydfa_replace(string text, pattern text, replacement text) RETURNS text
+    AS 'MODULE_PATHNAME', 'lazydfa_pg_replace' LANGUAGE C IMMUTABLE STRICT PARALLEL SAFE COST 20;
+CREATE FUNCTION lazydfa_replace(string text, pattern text, replacement text, flags text) RETURNS text
     AS 'MODULE_PATHNAME', 'lazydfa_pg_replace' LANGUAGE C IMMUTABLE STRICT PARALLEL SAFE COST 20;
 
 -- The tokens of a text: each is a match of a pattern, given by its index in the array, and begins where the last ended.
@@ -134,7 +146,10 @@ COMMENT ON FUNCTION lazydfa_find(text, text) IS 'where the first match begins, a
 COMMENT ON FUNCTION lazydfa_substr(text, text) IS 'first match';
 COMMENT ON FUNCTION lazydfa_matches(text, text) IS 'all matches that do not overlap';
 COMMENT ON FUNCTION lazydfa_count(text, text) IS 'number of matches that do not overlap';
-COMMENT ON FUNCTION lazydfa_replace(text, text, text) IS 'replace all matches that do not overlap';
+COMMENT ON FUNCTION lazydfa_captures(text, text) IS 'groups of the first match';
+COMMENT ON FUNCTION lazydfa_split(text, text) IS 'split text at the matches';
+COMMENT ON FUNCTION lazydfa_replace(text, text, text) IS 'replace the first match';
+COMMENT ON FUNCTION lazydfa_replace(text, text, text, text) IS 'replace the first match, or all of them';
 COMMENT ON FUNCTION lazydfa_tokens(text, text[]) IS 'split text into tokens, each a match of a pattern';
 COMMENT ON FUNCTION lazydfa_stats() IS 'statistics: compiled patterns of this session';
 COMMENT ON OPERATOR =~ (text, text) IS 'matches regular expression';

@@ -4,7 +4,6 @@
 
 #include "catalog/pg_type_d.h"
 #include "funcapi.h"
-#include "lib/stringinfo.h"
 #include "mb/pg_wchar.h"
 #include "utils/array.h"
 #include "utils/builtins.h"
@@ -23,26 +22,13 @@ void _PG_init(void) {
     define_settings();
 }
 
-/* Returns the value of argument 0, to be searched for the patterns of argument 1. */
-static Value value_of(FunctionCallInfo fcinfo, uint32 flags) {
-    Value value;
-    if (!fcinfo->flinfo->fn_extra)
-        fcinfo->flinfo->fn_extra = MemoryContextAllocZero(fcinfo->flinfo->fn_mcxt, sizeof(Site));
-    value.kept = kept_of_call(fcinfo, fcinfo->flinfo->fn_extra, flags);
-    begin_value(&value, PG_GETARG_VARLENA_PP(0));
-    return value;
-}
-
 static bool is_match(FunctionCallInfo fcinfo, uint32 flags) {
     Value value = value_of(fcinfo, flags | ENDS_ONLY);
     return has_match(&value);
 }
 
 /* Returns the bytes of a match as a text. */
-static Datum text_of(const Value *value, lazydfa_match match) {
-    const char *at = (const char *)value->bytes + match.start;
-    return PointerGetDatum(cstring_to_text_with_len(at, match.end - match.start));
-}
+static Datum text_of(const Value *value, lazydfa_match match) { return text_between(value, match.start, match.end); }
 
 /* Returns the type of the rows that a function returns, which its call site remembers as long as this context lasts. */
 static TupleDesc row_of(FunctionCallInfo fcinfo, Site *site, MemoryContext context) {
@@ -121,25 +107,6 @@ Datum lazydfa_pg_count(PG_FUNCTION_ARGS) {
     int64 count = 0;
     while (find_next(&value, &match)) count++;
     PG_RETURN_INT64(count);
-}
-
-PG_FUNCTION_INFO_V1(lazydfa_pg_replace);
-
-Datum lazydfa_pg_replace(PG_FUNCTION_ARGS) {
-    Value value = value_of(fcinfo, 0);
-    text *by = PG_GETARG_TEXT_PP(2);
-    const char *bytes = (const char *)value.bytes;
-    size_t copied = 0;
-    StringInfoData out;
-    lazydfa_match match;
-    initStringInfo(&out);
-    while (find_next(&value, &match)) {
-        appendBinaryStringInfo(&out, bytes + copied, match.start - copied);
-        appendBinaryStringInfo(&out, VARDATA_ANY(by), VARSIZE_ANY_EXHDR(by));
-        copied = match.end;
-    }
-    appendBinaryStringInfo(&out, bytes + copied, value.length - copied);
-    PG_RETURN_TEXT_P(cstring_to_text_with_len(out.data, out.len));
 }
 
 /* What a set-returning function keeps from call to call. */

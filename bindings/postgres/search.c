@@ -3,8 +3,15 @@
 #include "search.h"
 
 #include "miscadmin.h"
+#include "utils/builtins.h"
 
 #include "compile.h"
+#include "settings.h"
+
+/* The groups of a match are found by one call, which takes at most some 2 us for each byte of the match and kB of the
+   tables. So with tables of this size a match may be as long as a piece; it may be longer if they are smaller. */
+#define GROUPS_TABLES 10240
+#define GROUPS_BESIDE 256
 
 static const lazydfa_status none = {LAZYDFA_NONE, 0, 0};
 
@@ -13,6 +20,19 @@ void begin_value(Value *value, struct varlena *it) {
     value->length = VARSIZE_ANY_EXHDR(it);
     value->tokens = lazydfa_whole(value->length);
     value->matches = lazydfa_iterate(value->tokens);
+}
+
+Value value_of(FunctionCallInfo fcinfo, uint32 flags) {
+    Value value;
+    if (!fcinfo->flinfo->fn_extra)
+        fcinfo->flinfo->fn_extra = MemoryContextAllocZero(fcinfo->flinfo->fn_mcxt, sizeof(Site));
+    value.kept = kept_of_call(fcinfo, fcinfo->flinfo->fn_extra, flags);
+    begin_value(&value, PG_GETARG_VARLENA_PP(0));
+    return value;
+}
+
+Datum text_between(const Value *value, size_t start, size_t end) {
+    return PointerGetDatum(cstring_to_text_with_len((const char *)value->bytes + start, end - start));
 }
 
 /* Whether the rest of the value from an offset on is searched in pieces. */
@@ -221,6 +241,25 @@ bool find_next(Value *value, lazydfa_match *match) {
     else status = lazydfa_next(&value->kept->cache, value->bytes, value->length, &value->matches, match);
     end_search(value, value->length - from, status);
     return status.code == LAZYDFA_OK;
+}
+
+/* Returns how long a match may be whose groups are reported. */
+static size_t longest_match(const Kept *kept) {
+    return (size_t)((double)setting_piece_size * GROUPS_TABLES / (kept->size + GROUPS_BESIDE));
+}
+
+void find_groups(Value *value, const lazydfa_match *match, lazydfa_span *groups, size_t room) {
+    size_t most = longest_match(value->kept), count;
+    lazydfa_status status;
+    if (match->end - match->start > most)
+        ereport(ERROR, errcode(ERRCODE_PROGRAM_LIMIT_EXCEEDED),
+                errmsg("a match is too long for its groups to be reported"),
+                errdetail("It has %zu bytes, and lazydfa.piece_size allows %zu for this pattern.",
+                          match->end - match->start, most),
+                errhint("The superuser can raise lazydfa.piece_size."));
+    begin_search(value);
+    status = lazydfa_groups(&value->kept->cache, value->bytes, value->length, match, groups, room, &count);
+    end_search(value, 0, status);
 }
 
 lazydfa_status find_token(Value *value, lazydfa_match *token) {

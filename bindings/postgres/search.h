@@ -19,6 +19,12 @@ typedef struct {
 /* Begins searches of a value, which is a text or a bytea. */
 extern void begin_value(Value *value, struct varlena *it);
 
+/* Returns the value of argument 0 of a call, to be searched for the patterns of argument 1. */
+extern Value value_of(FunctionCallInfo fcinfo, uint32 flags);
+
+/* Returns some bytes of a value as a text. */
+extern Datum text_between(const Value *value, size_t start, size_t end);
+
 /* Each search reports errors of the library. A query can be cancelled before it, and in a long value while it runs.
    */
 
@@ -27,6 +33,10 @@ extern bool has_match(Value *value);
 
 /* Writes the next match; returns false if there is no match. */
 extern bool find_next(Value *value, lazydfa_match *match);
+
+/* Writes the spans of the groups of a match, as many as there is room for. The patterns are those of a call that
+   HAS_GROUPS. It is an error if the match is too long for this to be done between two chances to cancel the query. */
+extern void find_groups(Value *value, const lazydfa_match *match, lazydfa_span *groups, size_t room);
 
 /* Writes the next token. Returns LAZYDFA_OK; LAZYDFA_NONE at the end of the value; or LAZYDFA_NO_TOKEN, with the offset
    where no token begins. */

@@ -109,6 +109,9 @@ enum lazydfa_code {
     LAZYDFA_SKIPS = 35,          /* the regex is in UTF-8 mode, and matches the empty string if all its looks hold */
     LAZYDFA_NOT_BEGUN = 36,      /* no search or walk in pieces was begun over the cache */
 
+    /* from a call for groups */
+    LAZYDFA_NO_GROUPS = 37,      /* the regex was not built from texts with the option `groups` */
+
     /* from a pattern's text */
     LAZYDFA_SYNTAX = 40,         /* it is not a valid pattern; the offset is that of the error in the text */
     LAZYDFA_NOT_TEXT = 41,       /* it is not UTF-8, from the offset on */
@@ -225,7 +228,7 @@ typedef struct {
     uint32_t octal;                     /* \141 is the character with that octal number */
     uint32_t bytes;                     /* bytes are searched, not text: a match may split a character */
     uint32_t forward_only;              /* the regex has no part that finds where matches start */
-    uint32_t reserved;                  /* 0 */
+    uint32_t groups;                    /* what groups capture can be reported (lazydfa_groups) */
 } lazydfa_options;
 
 #define LAZYDFA_OPTIONS_INIT { sizeof(lazydfa_options), 0, 0, 0, 0, 0, 0, 0, 0, 0, 0, 0, 0, NULL, 0, \
@@ -233,10 +236,9 @@ typedef struct {
 
 /* ---- Regexes ----
  *
- * The syntax is that of Rust's regex crate, which has no lookahead, lookbehind or back references. Groups are parsed,
- * but what they capture is not reported. A word boundary must be an ASCII one, (?-u:\b), unless the options allow
- * unicode_word_boundary. A pattern that could match a part of a character, such as (?-u:.), is LAZYDFA_SYNTAX unless
- * the option `bytes` is on. */
+ * The syntax is that of Rust's regex crate, which has no lookahead, lookbehind or back references. A word boundary must
+ * be an ASCII one, (?-u:\b), unless the options allow unicode_word_boundary. A pattern that could match a part of a
+ * character, such as (?-u:.), is LAZYDFA_SYNTAX unless the option `bytes` is on. */
 
 /* The text of a pattern, in UTF-8. It need not end with a zero, and may contain zeros. */
 typedef struct {
@@ -276,10 +278,6 @@ lazydfa_status lazydfa_regex_any_of(lazydfa_regex *regex, const lazydfa_text *te
    may overlap in time, as on two threads. LAZYDFA_ARGUMENT also if both are the same handle. */
 lazydfa_status lazydfa_regex_share(lazydfa_regex *regex, lazydfa_regex *other);
 
-/* Writes the size of a regex's tables, in bytes: 16 for each state of its forward NFA, and 8 for each byte range of a
-   sparse state, but no needles of texts. The larger the tables, the longer a new state of the DFA can take. */
-lazydfa_status lazydfa_regex_size(lazydfa_regex *regex, size_t *size);
-
 /* ---- Caches ---- */
 
 /* Opens a handle on a new cache of a regex. The regex may be closed before the cache. */
@@ -287,18 +285,6 @@ lazydfa_status lazydfa_cache_new(lazydfa_cache *cache, lazydfa_regex *regex);
 
 /* Resets a cache to a fresh one of its regex. After an error the cache is unchanged. */
 lazydfa_status lazydfa_cache_reset(lazydfa_cache *cache);
-
-typedef struct {
-    size_t memory;          /* the bytes that the cache accounts for, which its capacity bounds */
-    size_t leaps;           /* the bytes of tables for long searches, built where the capacity has room */
-    size_t held;            /* the bytes that it holds from malloc: n count as n + 8 in units of 16, and at least 32 */
-    size_t forward_clears;  /* how often the part for ends of matches was cleared */
-    size_t reverse_clears;  /* how often the part for starts of matches was cleared */
-    size_t patterns;        /* how many patterns the regex has */
-} lazydfa_usage;
-
-/* Writes how much memory a cache holds, how often it was cleared, and how many patterns its regex has. */
-lazydfa_status lazydfa_cache_usage(lazydfa_cache *cache, lazydfa_usage *usage);
 
 /* ---- Searches ----
  *
@@ -383,15 +369,28 @@ lazydfa_status lazydfa_next_all(lazydfa_cache *cache, const uint8_t *haystack, s
 lazydfa_status lazydfa_which(lazydfa_cache *cache, const uint8_t *haystack, size_t length, const lazydfa_input *input,
                              size_t below, uint32_t *patterns, size_t room, size_t *count);
 
-/* Writes the token at the start of the span: the match that begins there and is not empty. The start of the span then
-   moves to the token's end. LAZYDFA_NONE at the end of the span; LAZYDFA_NO_TOKEN where no token begins. The anchored
-   mode and `earliest` are ignored. */
-lazydfa_status lazydfa_token(lazydfa_cache *cache, const uint8_t *haystack, size_t length, lazydfa_input *left,
-                             lazydfa_match *found);
+/* ---- Groups ----
+ *
+ * For a regex that was built from texts with the option `groups`; for any other, these calls return LAZYDFA_NO_GROUPS.
+ * Group 0 of a pattern is the whole match, and its groups have the numbers 1, 2 and so on, in the order in which they
+ * are opened (lazydfa_automata.h has the calls for their names). */
 
-/* Writes the next tokens, as many as there is room for, and their number, as lazydfa_next_all does for matches. */
-lazydfa_status lazydfa_tokens(lazydfa_cache *cache, const uint8_t *haystack, size_t length, lazydfa_input *left,
-                              lazydfa_match *found, size_t room, size_t *count);
+/* The span of a group of a match, or LAZYDFA_NO_OFFSET twice if the group took no part in it. A group in a repetition
+   has the span of the last round in which it took part. */
+typedef struct {
+    size_t start, end;
+} lazydfa_span;
+
+#define LAZYDFA_NO_OFFSET SIZE_MAX
+
+/* Writes the spans of the groups of a match, from group 0 on, as many as there is room for. With every code the call
+   writes, as lazydfa_next_all does, how many groups the pattern has. They are the groups of the match that the pattern
+   prefers within the span of `found`: so those of `found`, if a search over this cache reported it for this haystack,
+   without `earliest`, and the match kind is LAZYDFA_LEFTMOST_FIRST. Any span that is written lies within `found`. The
+   call allocates nothing, and takes time in proportion to the length of the match times the states of the pattern.
+   LAZYDFA_ARGUMENT also if `found` does not lie in the haystack, or its pattern does not exist. */
+lazydfa_status lazydfa_groups(lazydfa_cache *cache, const uint8_t *haystack, size_t length, const lazydfa_match *found,
+                              lazydfa_span *groups, size_t room, size_t *count);
 
 #ifdef __cplusplus
 }

@@ -1,6 +1,6 @@
-/* The calls beside those of lazydfa.h: for engines that build NFAs themselves, for haystacks in pieces, for overlapping
-   matches, for backward searches, and for what all matches of a pattern have in common. The head of lazydfa.h has the
-   rules that a program keeps, and the codes that are common to all calls. */
+/* The calls beside those of lazydfa.h: for names of groups, sizes and tokens, for engines that build NFAs themselves,
+   for haystacks in pieces, for overlapping matches, for backward searches, and for what all matches of a pattern have
+   in common. The head of lazydfa.h has the rules that a program keeps, and the codes that are common to all calls. */
 #ifndef LAZYDFA_AUTOMATA_H
 #define LAZYDFA_AUTOMATA_H
 
@@ -9,6 +9,54 @@
 #ifdef __cplusplus
 extern "C" {
 #endif
+
+/* ---- Names of groups ----
+ *
+ * LAZYDFA_NO_GROUPS if the regex was not built from texts with the option `groups`. LAZYDFA_ARGUMENT also if there is no
+ * pattern, or no group, of a number. */
+
+/* Writes how many groups a pattern has, group 0 included. */
+lazydfa_status lazydfa_group_count(lazydfa_regex *regex, uint32_t pattern, size_t *count);
+
+/* Writes the number of the group of a pattern that has a name, of `length` bytes. LAZYDFA_NONE if no group has it;
+   LAZYDFA_NOT_TEXT. */
+lazydfa_status lazydfa_group_index(lazydfa_regex *regex, uint32_t pattern, const char *name, size_t length,
+                                   size_t *group);
+
+/* Writes the name of a group: as many whole characters as there is room for, and a zero; and the length of the whole
+   name, in bytes. LAZYDFA_NONE if it has no name. name may be NULL if room is 0. */
+lazydfa_status lazydfa_group_name(lazydfa_regex *regex, uint32_t pattern, size_t group, char *name, size_t room,
+                                  size_t *length);
+
+/* ---- Sizes ---- */
+
+/* Writes the size of a regex's tables, in bytes: 16 for each state of its forward NFA, and 8 for each byte range of a
+   sparse state, but no needles of texts. The larger the tables, the longer a new state of the DFA can take. */
+lazydfa_status lazydfa_regex_size(lazydfa_regex *regex, size_t *size);
+
+typedef struct {
+    size_t memory;          /* the bytes that the cache accounts for, which its capacity bounds */
+    size_t leaps;           /* the bytes of tables for long searches, built where the capacity has room */
+    size_t held;            /* the bytes that it holds from malloc: n count as n + 8 in units of 16, and at least 32 */
+    size_t forward_clears;  /* how often the part for ends of matches was cleared */
+    size_t reverse_clears;  /* how often the part for starts of matches was cleared */
+    size_t patterns;        /* how many patterns the regex has */
+} lazydfa_usage;
+
+/* Writes how much memory a cache holds, how often it was cleared, and how many patterns its regex has. */
+lazydfa_status lazydfa_cache_usage(lazydfa_cache *cache, lazydfa_usage *usage);
+
+/* ---- Tokens ---- */
+
+/* Writes the token at the start of the span: the match that begins there and is not empty. The start of the span then
+   moves to the token's end. LAZYDFA_NONE at the end of the span; LAZYDFA_NO_TOKEN where no token begins. The anchored
+   mode and `earliest` are ignored. */
+lazydfa_status lazydfa_token(lazydfa_cache *cache, const uint8_t *haystack, size_t length, lazydfa_input *left,
+                             lazydfa_match *found);
+
+/* Writes the next tokens, as many as there is room for, and their number, as lazydfa_next_all does for matches. */
+lazydfa_status lazydfa_tokens(lazydfa_cache *cache, const uint8_t *haystack, size_t length, lazydfa_input *left,
+                              lazydfa_match *found, size_t room, size_t *count);
 
 /* ---- Builders ----
  *

@@ -60,6 +60,7 @@ const char *lazydfa_code_text(uint32_t code) {
         [LAZYDFA_NO_TOKEN] = "no token",
         [LAZYDFA_SKIPS] = "a regex that skips empty matches inside characters cannot be searched in pieces",
         [LAZYDFA_NOT_BEGUN] = "no search or walk in pieces was begun",
+        [LAZYDFA_NO_GROUPS] = "the regex was not built for groups",
         [LAZYDFA_SYNTAX] = "the text is not a valid pattern",
         [LAZYDFA_NOT_TEXT] = "the text of a pattern is not UTF-8",
         [LAZYDFA_NOT_COMPILED] = "the pattern was not compiled",
@@ -123,6 +124,7 @@ static void choose_texts(choices *it, const lazydfa_options *options) {
     it->texts.octal = options->octal;
     it->texts.bytes = options->bytes;
     it->texts.forward_only = options->forward_only;
+    it->texts.groups = options->groups;
 }
 
 /* Reads options, NULL for the defaults. Returns LAZYDFA_OK, or what is wrong with them. */
@@ -131,7 +133,7 @@ static uint32_t choose(choices *it, const lazydfa_options *options) {
     it->quits = SLICE(it->quits, 0);
     if (!options) return LAZYDFA_OK;
     if (options->struct_size != sizeof *options) return LAZYDFA_STRUCT_SIZE;
-    if ((options->zeros & ~(2u * LAZYDFA_ZERO_CLASS_LIMIT - 1)) || options->reserved) return LAZYDFA_ARGUMENT;
+    if (options->zeros & ~(2u * LAZYDFA_ZERO_CLASS_LIMIT - 1)) return LAZYDFA_ARGUMENT;
     if (!options->quits && options->quit_count) return LAZYDFA_ARGUMENT;
     choose_settings(it, options);
     choose_texts(it, options);
@@ -283,6 +285,30 @@ lazydfa_status lazydfa_regex_size(lazydfa_regex *regex, size_t *size) {
     NEED(regex);
     NEED(size);
     return lazydfa_raw_regex_size(&regex->handle, size);
+}
+
+/* ---- Names of groups ---- */
+
+lazydfa_status lazydfa_group_count(lazydfa_regex *regex, uint32_t pattern, size_t *count) {
+    NEED(regex);
+    NEED(count);
+    return lazydfa_raw_group_count(&regex->handle, pattern, count);
+}
+
+lazydfa_status lazydfa_group_index(lazydfa_regex *regex, uint32_t pattern, const char *name, size_t length,
+                                   size_t *group) {
+    NEED(regex);
+    NEED(group);
+    NEED_ALL(name, length);
+    return lazydfa_raw_group_index(&regex->handle, pattern, SLICE((const uint8_t *)name, length), length, group);
+}
+
+lazydfa_status lazydfa_group_name(lazydfa_regex *regex, uint32_t pattern, size_t group, char *name, size_t room,
+                                  size_t *length) {
+    NEED(regex);
+    NEED(length);
+    NEED_ALL(name, room);
+    return lazydfa_raw_group_name(&regex->handle, pattern, group, SLICE((uint8_t *)name, room), room, length);
 }
 
 /* ---- Builders ---- */
@@ -583,6 +609,17 @@ lazydfa_status lazydfa_which(lazydfa_cache *cache, const uint8_t *haystack, size
     NEED_ALL(haystack, length);
     return lazydfa_raw_which(&cache->handle, SLICE(haystack, length), length, input, below, SLICE(patterns, room),
                              room, count);
+}
+
+lazydfa_status lazydfa_groups(lazydfa_cache *cache, const uint8_t *haystack, size_t length, const lazydfa_match *found,
+                              lazydfa_span *groups, size_t room, size_t *count) {
+    COUNT(count);
+    NEED(cache);
+    NEED(found);
+    NEED_ALL(groups, room);
+    NEED_ALL(haystack, length);
+    return lazydfa_raw_groups(&cache->handle, SLICE(haystack, length), length, found, SLICE(groups, room), room,
+                              count);
 }
 
 /* ---- What all matches have in common ---- */

@@ -43,6 +43,7 @@ typedef struct {
     uint32_t octal;
     uint32_t bytes;
     uint32_t forward_only;
+    uint32_t groups;
 } raw_text_options;
 
 /* Why no regex was built from the texts of patterns, as in an error. */
@@ -83,6 +84,9 @@ lazydfa_status lazydfa_raw_text_facts(const uint8_t *, size_t, const raw_text_op
 lazydfa_status lazydfa_raw_regex_share(lazydfa_handle *, lazydfa_handle *);
 lazydfa_status lazydfa_raw_regex_reverse(lazydfa_handle *, lazydfa_handle *);
 lazydfa_status lazydfa_raw_regex_size(lazydfa_handle *, size_t *);
+lazydfa_status lazydfa_raw_group_count(lazydfa_handle *, uint32_t, size_t *);
+lazydfa_status lazydfa_raw_group_index(lazydfa_handle *, uint32_t, const uint8_t *, size_t, size_t *);
+lazydfa_status lazydfa_raw_group_name(lazydfa_handle *, uint32_t, size_t, uint8_t *, size_t, size_t *);
 lazydfa_status lazydfa_raw_cache_new(lazydfa_handle *, lazydfa_handle *);
 lazydfa_status lazydfa_raw_cache_reset(lazydfa_handle *);
 lazydfa_status lazydfa_raw_cache_usage(lazydfa_handle *, lazydfa_usage *);
@@ -102,6 +106,8 @@ lazydfa_status lazydfa_raw_all_starts(lazydfa_handle *, const uint8_t *, size_t,
                                       size_t, size_t *);
 lazydfa_status lazydfa_raw_which(lazydfa_handle *, const uint8_t *, size_t, const lazydfa_input *, size_t, uint32_t *,
                                  size_t, size_t *);
+lazydfa_status lazydfa_raw_groups(lazydfa_handle *, const uint8_t *, size_t, const lazydfa_match *, lazydfa_span *,
+                                  size_t, size_t *);
 lazydfa_status lazydfa_raw_pieces_begin(lazydfa_handle *, uint32_t, uint32_t, uint32_t, uint32_t);
 lazydfa_status lazydfa_raw_pieces_read(lazydfa_handle *, const uint8_t *, size_t, uint32_t *);
 lazydfa_status lazydfa_raw_pieces_end(lazydfa_handle *, uint32_t, lazydfa_half *);

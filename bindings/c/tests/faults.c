@@ -311,13 +311,13 @@ static void search_texts(lazydfa_regex *re, lazydfa_cache *c) {
 }
 
 /* A regex of a text opens without needles if an allocation for these fails, and finds the same. */
-static void open_with_needles(long one) {
+static void open_with_needles(const char *text, long one) {
     lazydfa_regex re = LAZYDFA_INIT;
     lazydfa_cache c = LAZYDFA_INIT;
     lazydfa_input in = lazydfa_whole(8);
     lazydfa_match m;
     only = one;
-    WANT(lazydfa_regex_new(&re, "bc|bd+", 6, NULL, NULL), LAZYDFA_OK);
+    WANT(lazydfa_regex_new(&re, text, strlen(text), NULL, NULL), LAZYDFA_OK);
     only = 0;
     WANT(lazydfa_cache_new(&c, &re), LAZYDFA_OK);
     WANT(lazydfa_find(&c, (const uint8_t *)"-b-abdd-", 8, &in, &m), LAZYDFA_OK);
@@ -328,15 +328,39 @@ static void open_with_needles(long one) {
 }
 
 /* Makes each allocation of the regex's opening fail in turn. */
-static void needles(void) {
+static void needles(const char *text) {
     long i, all;
     calls = blocks = only = from = 0;
-    open_with_needles(0);
+    open_with_needles(text, 0);
     all = calls;
     for (i = 1; i <= all && wrong < 20; i++) {
         calls = 0;
-        open_with_needles(i);
+        open_with_needles(text, i);
     }
+}
+
+/* The groups of (a+)(?P<x>b)?, which are found without an allocation, and the error of a text for groups. */
+static void find_groups(lazydfa_regex *re, lazydfa_cache *c) {
+    static const lazydfa_text texts[2] = { { "c", 1 }, { "(a+)(?P<x>b)?", 13 } };
+    lazydfa_options options = LAZYDFA_OPTIONS_INIT;
+    lazydfa_input in = lazydfa_whole(5);
+    lazydfa_match m;
+    lazydfa_span spans[3];
+    char name[2];
+    size_t count, length;
+    long before;
+    options.groups = 1;
+    WANT(lazydfa_regex_new(re, "a{2,1}", 6, &options, NULL), LAZYDFA_SYNTAX);
+    WANT(lazydfa_regex_any_of(re, texts, 2, &options, NULL), LAZYDFA_OK);
+    WANT(lazydfa_cache_new(c, re), LAZYDFA_OK);
+    WANT(lazydfa_find(c, (const uint8_t *)"-aab-", 5, &in, &m), LAZYDFA_OK);
+    before = calls;
+    WANT(lazydfa_groups(c, (const uint8_t *)"-aab-", 5, &m, spans, 3, &count), LAZYDFA_OK);
+    IS(count == 3 && spans[1].start == 1 && spans[1].end == 3 && spans[2].start == 3 && spans[2].end == 4);
+    WANT(lazydfa_group_count(re, 1, &count), LAZYDFA_OK);
+    WANT(lazydfa_group_index(re, 1, "x", 1, &count), LAZYDFA_OK);
+    WANT(lazydfa_group_name(re, 1, 2, name, 2, &length), LAZYDFA_OK);
+    IS(count == 2 && length == 1 && name[0] == 'x' && calls == before);
 }
 
 /* What all matches of ^ab[cd]e(fg)+ have in common. */
@@ -351,13 +375,13 @@ static void report_facts(void) {
 
 /* The handles of a program. */
 typedef struct {
-    lazydfa_builder builders[5];
-    lazydfa_regex regexes[5], other;
-    lazydfa_cache caches[5];
+    lazydfa_builder builders[6];
+    lazydfa_regex regexes[6], other;
+    lazydfa_cache caches[6];
 } handles;
 
-/* Builds a builder, two regexes from it and a cache of each, and makes every search; also a pair, texts, and a regex
-   with two handles. */
+/* Builds a builder, two regexes from it and a cache of each, and makes every search; also a pair, texts, a regex with two
+   handles, and one with groups. */
 static void run(handles *h) {
     lazydfa_options settings = LAZYDFA_OPTIONS_INIT;
     lazydfa_starts starts = { { 0 }, { 0 } };
@@ -381,6 +405,8 @@ static void run(handles *h) {
     report_facts();
     WANT(lazydfa_builder_new(&h->builders[4]), LAZYDFA_OK);
     search_shared(&h->regexes[4], &h->other, &h->caches[4]);
+    WANT(lazydfa_builder_new(&h->builders[5]), LAZYDFA_OK);
+    find_groups(&h->regexes[5], &h->caches[5]);
 }
 
 /* Closes everything, a regex before its cache or after it, while every allocation would fail: none is requested. */
@@ -390,7 +416,7 @@ static void close_all(handles *h) {
     from = 1;
     calls = 0;
     if (lazydfa_regex_close(&h->other).code != LAZYDFA_OK) complain("a handle is not closed", __LINE__);
-    for (i = 0; i < 5; i++) {
+    for (i = 0; i < 6; i++) {
         lazydfa_status status[3];
         int k;
         if (i % 2) status[0] = lazydfa_cache_close(&h->caches[i]);
@@ -405,10 +431,10 @@ static void close_all(handles *h) {
 }
 
 static long cycle(long one, long first) {
-    handles h = { { LAZYDFA_INIT, LAZYDFA_INIT, LAZYDFA_INIT, LAZYDFA_INIT, LAZYDFA_INIT },
-                  { LAZYDFA_INIT, LAZYDFA_INIT, LAZYDFA_INIT, LAZYDFA_INIT, LAZYDFA_INIT },
+    handles h = { { LAZYDFA_INIT, LAZYDFA_INIT, LAZYDFA_INIT, LAZYDFA_INIT, LAZYDFA_INIT, LAZYDFA_INIT },
+                  { LAZYDFA_INIT, LAZYDFA_INIT, LAZYDFA_INIT, LAZYDFA_INIT, LAZYDFA_INIT, LAZYDFA_INIT },
                   LAZYDFA_INIT,
-                  { LAZYDFA_INIT, LAZYDFA_INIT, LAZYDFA_INIT, LAZYDFA_INIT, LAZYDFA_INIT } };
+                  { LAZYDFA_INIT, LAZYDFA_INIT, LAZYDFA_INIT, LAZYDFA_INIT, LAZYDFA_INIT, LAZYDFA_INIT } };
     long before = refused, known = reported, asked;
     calls = blocks = 0;
     only = one;
@@ -428,7 +454,8 @@ int main(void) {
         cycle(i, 0);
         cycle(0, i);
     }
-    needles();
+    needles("bc|bd+");
+    needles("bc|bd+|cb|db");
     printf("%ld allocations, %ld refused, %ld wrong\n", all, refused, wrong);
     return wrong != 0;
 }

@@ -15,7 +15,9 @@ static const char *const all[][2] = {
     { "ab*c?", NULL },           { "abc?$", NULL },           { "a(?-u:\\b)", NULL },      { "(?m)^ab", NULL },
     { "\xC3\xA9+", NULL },       { "a.", NULL },              { "(?s)a.*?b", NULL },       { "ab", "ac" },
     { "aba", "b" },              { "http", "https" },         { "Holmes", "Sherlock" },    { "\\nab?", NULL },
-    { "^ab", NULL },             { "(?i)ab", NULL },          { "[a-z]+b", NULL },         { "(?:ab)*", NULL },
+    { "ab|ba|http", NULL },      { "(?i)holmes", NULL },      { "abc|cab*", "Holmes|://" }, { "(?i)ab", NULL },
+    { "(?:aab|bab|http|AKIA|Sherlock Holmes|:/|\n[ab])c*", NULL },
+    { "^ab", NULL },             { "[a-z]+b", NULL },         { "(?:ab)*", NULL },
 };
 
 /* More texts. Matches of the first ones begin with one of a few bytes. */
@@ -46,7 +48,7 @@ static size_t below(size_t bound) {
 
 /* Writes a haystack, and returns its length. */
 static size_t draw(char *hay) {
-    size_t length = 0, count = below(14);
+    size_t length = 0, count = below(24);
     while (count--) {
         const char *part = parts[below(sizeof parts / sizeof *parts)];
         memcpy(hay + length, part, strlen(part));

@@ -15,7 +15,7 @@ static void layouts(void) {
     CHECK(sizeof options == 160 && options.struct_size == 160 && sizeof error == 4152 && error.struct_size == 4152);
     CHECK(offsetof(lazydfa_options, zeros) == 40 && offsetof(lazydfa_options, quits) == 72);
     CHECK(offsetof(lazydfa_options, always_anchored) == 68 && offsetof(lazydfa_options, size_limit) == 88);
-    CHECK(offsetof(lazydfa_options, nest_limit) == 112 && offsetof(lazydfa_options, reserved) == 156);
+    CHECK(offsetof(lazydfa_options, nest_limit) == 112 && offsetof(lazydfa_options, groups) == 156);
     CHECK(offsetof(lazydfa_error, status) == 8 && offsetof(lazydfa_error, length) == 48);
     CHECK(offsetof(lazydfa_error, message) == 56);
     for (i = sizeof options.struct_size; i < sizeof options; i++) CHECK(!at[i]);
@@ -25,6 +25,7 @@ static void layouts(void) {
     CHECK(sizeof(lazydfa_match) == 24 && sizeof(lazydfa_half) == 16 && sizeof(lazydfa_iteration) == 48);
     CHECK(sizeof(lazydfa_usage) == 48 && sizeof(lazydfa_stop) == 24 && sizeof(lazydfa_facts) == 40);
     CHECK(sizeof(lazydfa_edge) == 8 && sizeof(lazydfa_starts) == 8 && sizeof(lazydfa_text) == 16);
+    CHECK(sizeof(lazydfa_span) == 16);
 }
 
 enum { OPTION_CALLS = 5 };
@@ -79,7 +80,7 @@ static void sizes(void) {
         }
 }
 
-/* Each flag of zeros makes a 0 count; other bits are refused, and so is what is reserved. */
+/* Each flag of zeros makes a 0 count; other bits are refused. */
 static void zeros(void) {
     lazydfa_options options = LAZYDFA_OPTIONS_INIT;
     int call, bit;
@@ -87,10 +88,6 @@ static void zeros(void) {
         options.zeros = (uint32_t)1 << bit;
         for (call = 0; call < OPTION_CALLS; call++) CODE(with_options(call, &options, NULL), LAZYDFA_ARGUMENT);
     }
-    options.zeros = 0;
-    options.reserved = 1;
-    for (call = 0; call < OPTION_CALLS; call++) CODE(with_options(call, &options, NULL), LAZYDFA_ARGUMENT);
-    options.reserved = 0;
     options.zeros = LAZYDFA_ZERO_CACHE_CAPACITY;
     for (call = 0; call < 4; call++) CODE(with_options(call, &options, NULL), LAZYDFA_CAPACITY);
     options.zeros |= LAZYDFA_ZERO_CACHE_LIMIT;
@@ -122,7 +119,7 @@ static void codes(void) {
         for (other = 0; other < code; other++)
             CHECK(strcmp(lazydfa_code_text(code), lazydfa_code_text(other)) || !strcmp(lazydfa_code_text(code), none));
     }
-    CHECK(count == 35);
+    CHECK(count == 36);
     CHECK(!strcmp(lazydfa_code_text(UINT32_MAX), none) && !strcmp(lazydfa_code_text(LAZYDFA_OK), "done"));
     CHECK(!strcmp(lazydfa_version(), LAZYDFA_VERSION));
 }

@@ -31,16 +31,20 @@ static void check(struct job *job, int is_right, int line) {
 #define CHECK(fact) check(job, fact, __LINE__)
 #define DONE(call) CHECK((call).code == LAZYDFA_OK)
 
-/* The words of the text are matches of pattern 0, and its numbers of pattern 1. */
+/* The words of the text are matches of pattern 0, and its numbers of pattern 1. The group of each is its last byte. */
 static void search(struct job *job, lazydfa_cache *cache) {
     static const lazydfa_match wanted[4] = { { 0, 3, 0, 0 }, { 4, 6, 1, 0 }, { 7, 10, 0, 0 }, { 11, 14, 1, 0 } };
     lazydfa_iteration at = lazydfa_iterate(lazydfa_whole(LENGTH));
     lazydfa_match found;
     lazydfa_status status;
+    lazydfa_span groups[2];
+    size_t room;
     int count = 0;
     while ((status = lazydfa_next(cache, text, LENGTH, &at, &found)).code == LAZYDFA_OK && count < 4) {
         CHECK(found.start == wanted[count].start && found.end == wanted[count].end);
         CHECK(found.pattern == wanted[count].pattern);
+        DONE(lazydfa_groups(cache, text, LENGTH, &found, groups, 2, &room));
+        CHECK(room == 2 && groups[1].start + 1 == found.end && groups[1].end == found.end);
         count++;
     }
     CHECK(status.code == LAZYDFA_NONE && count == 4);
@@ -87,10 +91,12 @@ static void *run(void *at) {
 }
 
 static int open_all(lazydfa_regex *regex, struct job *jobs) {
-    static const lazydfa_text texts[2] = { { "[a-z]+", 6 }, { "[0-9]+", 6 } };
+    static const lazydfa_text texts[2] = { { "([a-z])+", 8 }, { "([0-9])+", 8 } };
     static const struct job none = { 0, 0, 0, 0, LAZYDFA_INIT, LAZYDFA_INIT };
+    lazydfa_options options = LAZYDFA_OPTIONS_INIT;
     int i;
-    if (lazydfa_regex_any_of(regex, texts, 2, NULL, NULL).code != LAZYDFA_OK) return 0;
+    options.groups = 1;
+    if (lazydfa_regex_any_of(regex, texts, 2, &options, NULL).code != LAZYDFA_OK) return 0;
     for (i = 0; i < THREADS; i++) {
         jobs[i] = none;
         jobs[i].number = i;

@@ -25,7 +25,7 @@ SELECT lazydfa_matches('foo 12 bär', '\w+');
 SELECT count(*) AS four, bool_and(it = '') AS empty FROM lazydfa_matches('aé1', '') it;
 SELECT lazydfa_matches('ab ab ab', 'ab') LIMIT 2;
 SELECT lazydfa_count('foo 12 bär', '\w') AS eight, lazydfa_count('', 'x') AS none, lazydfa_count('xx', 'y*') AS three;
-SELECT lazydfa_replace('a-bb-c', 'b+', '<>'), lazydfa_replace('aé', '', '-'), lazydfa_replace('abc', 'x', '-');
+SELECT lazydfa_replace('a-bb-c', 'b+', '<>', 'g'), lazydfa_replace('aé', '', '-', 'g'), lazydfa_replace('abc', 'x', '-', 'g');
 
 -- Which of many patterns match
 SELECT lazydfa_which('foo 12', array['\d+', 'x', 'o{2}']), lazydfa_which('', array['a', 'b']), lazydfa_which('a', '{}');
@@ -89,10 +89,10 @@ DROP TABLE long_lines;
 
 -- An empty match is never inside a character, and a text has one beginning, even if it is searched in pieces
 SELECT 'aéa' =~ '(?-u:\B)' AS no, 'aéa' =~| '{"(?-u:\\B)"}' AS no, 'éa' =~ '(?-u:\B)' AS yes, 'éa' =~| '{"(?-u:\\B)"}' AS yes,
-    lazydfa_count('aéa', 'x*') AS four, lazydfa_replace('aéa', 'x*', '-'), lazydfa_find('aé€', '$'),
+    lazydfa_count('aéa', 'x*') AS four, lazydfa_replace('aéa', 'x*', '-', 'g'), lazydfa_find('aé€', '$'),
     lazydfa_which('aéa', '{"(?-u:\\B)",x*,é}'), array(SELECT lazydfa_matches('xaab', 'x|^aab|b'));
 SET lazydfa.piece_size = 1;
 SELECT 'aéa' =~ '(?-u:\B)' AS no, 'aéa' =~| '{"(?-u:\\B)"}' AS no, 'éa' =~ '(?-u:\B)' AS yes, 'éa' =~| '{"(?-u:\\B)"}' AS yes,
-    lazydfa_count('aéa', 'x*') AS four, lazydfa_replace('aéa', 'x*', '-'), lazydfa_find('aé€', '$'),
+    lazydfa_count('aéa', 'x*') AS four, lazydfa_replace('aéa', 'x*', '-', 'g'), lazydfa_find('aé€', '$'),
     lazydfa_which('aéa', '{"(?-u:\\B)",x*,é}'), array(SELECT lazydfa_matches('xaab', 'x|^aab|b'));
 RESET lazydfa.piece_size;

@@ -2,6 +2,8 @@
 import doctest
 import random
 import re
+import subprocess
+import sys
 import threading
 import unittest
 
@@ -41,6 +43,33 @@ def random_text(rnd):
     return "".join(rnd.choice(LETTERS) for _ in range(rnd.randrange(12)))
 
 
+TEMPLATES = [r"<\1>", r"\g<0>-\2", r"\g<x1>!", r"\n\\\.\041", r"é\3\g<1>0", "-", r"\0\07a\12\1012"]
+
+
+def named(pattern, rnd):
+    """Returns the pattern with names for some of its groups."""
+    parts = re.split(r"(\((?!\?))", pattern)
+    names = iter(f"(?P<x{n}>" if rnd.randrange(2) else "(" for n in range(1, len(parts)))
+    return "".join(next(names) if part == "(" else part for part in parts)
+
+
+def groups_of(match):
+    """Returns all that a match says about its groups."""
+    if match is None:
+        return None
+    every = range(len(match.groups()) + 1)
+    spans = [(match.start(it), match.end(it), match.span(it), match[it]) for it in every]
+    return spans, match.group(*every, 0), match.groups(), match.groups("-"), match.groupdict(), match.groupdict("")
+
+
+def outcome(function, *arguments):
+    """Returns what a function returns, or the message of its error."""
+    try:
+        return function(*arguments)
+    except (IndexError, re.error, lazydfa.TemplateError) as error:
+        return re.sub(r"^octal escape.*|^missing <.*", "", str(error)).split(" at position")[0]
+
+
 def spans_of(regex, text):
     return [it.span() for it in regex.finditer(text)]
 
@@ -73,6 +102,56 @@ class Random(unittest.TestCase):
                 self.assertEqual(mine and mine.span(), first and first.span())
                 if not is_empty:
                     self.assertEqual(spans_of(lazydfa.Regex(pattern), text), spans_of(re.compile(pattern), text))
+
+    def test_groups_of_text(self):
+        for seed in range(SEEDS // 2):
+            rnd = random.Random(seed)
+            pattern, is_empty = random_pattern(rnd, 5)
+            pattern = rnd.choice(["", "", "", "^"]) + named(pattern, rnd) + rnd.choice(["", "", "", "$"])
+            regex, peer = lazydfa.Regex(pattern), re.compile(pattern)
+            self.assertEqual((regex.groups, dict(regex.groupindex)), (peer.groups, dict(peer.groupindex)))
+            for _ in range(3):
+                text, template, count = random_text(rnd), rnd.choice(TEMPLATES), rnd.randrange(3)
+                with self.subTest(seed=seed, pattern=pattern, text=text, template=template):
+                    mine, first = regex.search(text), peer.search(text)
+                    self.assertEqual(groups_of(mine), groups_of(first))
+                    if first:
+                        self.assertEqual(outcome(mine.expand, template), outcome(first.expand, template))
+                    # The two continue differently after an empty match.
+                    if is_empty:
+                        continue
+                    every, wanted = regex.finditer(text), peer.finditer(text)
+                    self.assertEqual([groups_of(it) for it in every], [groups_of(it) for it in wanted])
+                    self.assertEqual(
+                        outcome(regex.subn, template, text, count), outcome(peer.subn, template, text, count)
+                    )
+                    self.assertEqual(regex.split(text, count), peer.split(text, count))
+
+    def test_groups_of_bytes(self):
+        for seed in range(SEEDS // 4):
+            rnd = random.Random(seed)
+            pattern, is_empty = random_pattern(rnd, 4)
+            pattern = named(pattern, rnd).replace("é", "d").replace("☃", "e").encode()
+            text = bytes(rnd.choice(b"abcde\xff\x80") for _ in range(rnd.randrange(12)))
+            template = rnd.choice(TEMPLATES).encode("latin-1")
+            with self.subTest(seed=seed, pattern=pattern, text=text):
+                mine, first = lazydfa.Regex(pattern), re.compile(pattern)
+                self.assertEqual(groups_of(mine.search(text)), groups_of(first.search(text)))
+                if not is_empty:
+                    self.assertEqual(outcome(mine.sub, template, text), outcome(first.sub, template, text))
+                    self.assertEqual(mine.split(text), first.split(text))
+
+    def test_templates(self):
+        pattern, text = "(?P<x>a)(b)?", "-ab-a-"
+        regex, peer = lazydfa.Regex(pattern), re.compile(pattern)
+        for seed in range(SEEDS):
+            rnd = random.Random(seed)
+            every = ["\\", "\\", "g<", ">", "x", "0", "1", "2", "3", "7", "n", "q", ".", "é", "\\g<x>", "\\g<1>"]
+            template = "".join(rnd.choice(every) for _ in range(rnd.randrange(8)))
+            with self.subTest(template=template):
+                mine, wanted = outcome(regex.sub, template, text), outcome(peer.sub, template, text)
+                is_refused = not isinstance(wanted, str) or "-" not in wanted
+                self.assertTrue(mine == wanted or (is_refused and "-" not in mine), (mine, wanted))
 
     def test_sets(self):
         for seed in range(SEEDS // 10):
@@ -110,6 +189,81 @@ class Worked(unittest.TestCase):
         self.assertEqual(regex.split("é , b,c"), ["é", "b", "c"])
         self.assertEqual(regex.sub("; ", "é , b,c"), "é; b; c")
         self.assertEqual(lazydfa.Regex(b"[0-9]").sub(lambda it: it.group() * 2, b"a1b2"), b"a11b22")
+
+    def test_groups(self):
+        regex = lazydfa.Regex("(?P<key>é+)=(?P<value>[0-9]*)(;)?")
+        found = list(regex.finditer("é=12;☃éé="))
+        self.assertEqual([it.group("key", 2, 3) for it in found], [("é", "12", ";"), ("éé", "", None)])
+        self.assertEqual([it.span("value") for it in found], [(2, 4), (9, 9)])
+        self.assertEqual((found[1].span(3), found[1].start("key"), found[1]["key"]), ((-1, -1), 6, "éé"))
+        self.assertEqual(found[0].groupdict(), {"key": "é", "value": "12"})
+        self.assertEqual((regex.groups, dict(regex.groupindex)), (3, {"key": 1, "value": 2}))
+        self.assertIs(found[0].re, regex)
+        for wrong in (4, -1, "other"):
+            with self.assertRaisesRegex(IndexError, "no such group"):
+                found[0].group(wrong)
+        with self.assertRaises(TypeError):
+            found[0].group(1.0)
+        self.assertEqual(regex.sub(r"\g<value>\1", "é=12;☃éé="), "12é☃éé")
+        self.assertEqual(regex.subn(lambda it: it["key"], "é=1é=2é=3", 2), ("ééé=3", 2))
+        self.assertEqual(lazydfa.Regex("(,)|;").split("a,b;c", 1), ["a", ",", "b;c"])
+        self.assertEqual(found[0].expand("<\\3>"), "<;>")
+
+    def test_groups_of_several_patterns(self):
+        regex = lazydfa.Regex(["(?P<word>[a-z]+)(-)?", "(?P<number>[0-9])(?P<word>x)?", "!"])
+        found = list(regex.finditer("ab- 1x 2 !"))
+        self.assertEqual([it.groups() for it in found], [("ab", "-"), ("1", "x"), ("2", None), ()])
+        self.assertEqual(found[2].groupdict(), {"number": "2", "word": None})
+        self.assertEqual(regex.sub(r"<\g<word>\2>", "ab- 1x 2 !"), "<ab-> <xx> <> <>")
+        self.assertEqual((regex.groups, dict(regex.groupindex)), (2, {"word": 1}))
+        self.assertEqual((lazydfa.Regex([]).groups, lazydfa.Regex([]).split("a")), (0, ["a"]))
+
+    def test_errors_of_templates(self):
+        regex = lazydfa.Regex("(a)")
+        for wrong in (r"\2", r"\q", "\\", r"\g<1", r"\g<-1>", r"\400"):
+            with self.assertRaises(lazydfa.TemplateError):
+                regex.sub(wrong, "b")
+        with self.assertRaises(IndexError):
+            regex.sub(r"\g<x>", "b")
+        with self.assertRaises(TypeError):
+            regex.sub(b"x", "a")
+
+    def test_groups_on_threads(self):
+        regex, text, found = lazydfa.Regex(r"(\pL+)([0-9])"), "né1 " * 200, []
+
+        def search():
+            found.append([it.group(2, 1) for it in regex.finditer(text)])
+
+        threads = [threading.Thread(target=search) for _ in range(4)]
+        for it in threads:
+            it.start()
+        for it in threads:
+            it.join()
+        self.assertEqual(found, [[("1", "né")] * 200] * 4)
+
+    def test_groups_without_memory(self):
+        program = """if 1:
+            import lazydfa, resource
+            match = lazydfa.Regex(r"(\\w{60})?(a)").search("xa")
+            used = 4096 * int(open("/proc/self/statm").read().split()[0])
+            soft, hard = resource.getrlimit(resource.RLIMIT_AS)
+            resource.setrlimit(resource.RLIMIT_AS, (used + 2_000_000, hard))
+            try:
+                match.group(2)
+            except MemoryError:
+                print("no memory", match.group())
+            resource.setrlimit(resource.RLIMIT_AS, (soft, hard))
+            print(match.span(2))
+        """
+        said = subprocess.run([sys.executable, "-c", program], capture_output=True, text=True)
+        self.assertEqual((said.stdout, said.stderr), ("no memory a\n(1, 2)\n", ""))
+
+    def test_groups_are_built_when_they_are_needed(self):
+        regex = lazydfa.Regex("(a)")
+        self.assertEqual((regex.sub("x", "a"), regex.search("a").span(), regex.findall("a")), ("x", (0, 1), ["a"]))
+        self.assertIsNone(regex._its_groups)
+        self.assertEqual(regex.search("a").group(1), "a")
+        self.assertIsNotNone(regex._its_groups)
 
     def test_flags(self):
         self.assertTrue(lazydfa.Regex("É", case_insensitive=True).is_match("é"))

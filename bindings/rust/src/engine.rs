@@ -1,5 +1,6 @@
 //! The library's objects that regexes, DFAs and caches own.
-use crate::error::{BuildError, MatchError};
+use crate::error::{BuildError, BuildErrorKind, MatchError};
+use crate::groups::{Groups, Source};
 use crate::handle::Handle;
 use crate::hybrid::dfa;
 use crate::hybrid::regex::Regex;
@@ -8,12 +9,15 @@ use crate::raw::{self, Half, Status, Stop};
 use crate::util::{start, syntax};
 use crate::{Anchored, HalfMatch, Input, Match, PatternID, PatternSet};
 use std::fmt;
-use std::sync::{Arc, Mutex, MutexGuard, PoisonError};
+use std::sync::{Arc, Mutex, MutexGuard, OnceLock, PoisonError};
 
-/// The two lazy DFAs of a regex. The lock serializes the calls that use its handle, which create caches.
+/// The two lazy DFAs of a regex, and what finds groups, once it is needed. The lock serializes the calls that use its
+/// handle, which create caches, and those that build what finds groups.
 pub struct Engine {
     regex: Mutex<Handle>,
     pattern_len: usize,
+    source: Option<Source>,
+    groups: OnceLock<Groups>,
 }
 
 impl Engine {
@@ -32,31 +36,27 @@ impl Engine {
             options.size_limit = limit.unwrap_or(usize::MAX);
             settings.set_zero(raw::ZERO_SIZE_LIMIT, true);
         }
-        let texts: Vec<raw::Text> = patterns.iter().map(|pattern| raw::Text::of(pattern.as_ref())).collect();
-        let options = raw::Options::of(&settings, &config.quits, &options);
-        let (mut regex, mut error) = (Handle::closed(), raw::Error::new());
-        let status = raw::regex_any_of(&mut regex, &texts, &options, &mut error);
-        let span = error.start..error.end;
-        status.built().map_err(|built| built.of_text(error.pattern, span, error.message()))?;
-        Ok(Engine::new(regex, patterns.len()))
+        let regex = open(patterns, &raw::Options::of(&settings, &config.quits, &options))?;
+        let source = (!forward_only).then(|| Source::of(patterns, settings, options));
+        Ok(Engine::new(regex, patterns.len(), source))
     }
 
     /// Builds the DFAs from one NFA: the second from the reversed NFA.
     pub fn of_nfa(nfa: &NFA, config: &dfa::Config) -> Result<Arc<Engine>, BuildError> {
         let mut regex = Handle::closed();
         nfa.open(&mut regex, &config.options())?;
-        Ok(Engine::new(regex, nfa.pattern_len()))
+        Ok(Engine::new(regex, nfa.pattern_len(), None))
     }
 
     /// Builds the DFAs from two NFAs, the second of which reads backward.
     pub fn of_nfas(forward: &NFA, reverse: &NFA, config: &dfa::Config) -> Result<Arc<Engine>, BuildError> {
         let mut regex = Handle::closed();
         forward.open_pair(reverse, &mut regex, &config.options())?;
-        Ok(Engine::new(regex, forward.pattern_len()))
+        Ok(Engine::new(regex, forward.pattern_len(), None))
     }
 
-    fn new(regex: Handle, pattern_len: usize) -> Arc<Engine> {
-        Arc::new(Engine { regex: Mutex::new(regex), pattern_len })
+    fn new(regex: Handle, pattern_len: usize, source: Option<Source>) -> Arc<Engine> {
+        Arc::new(Engine { regex: Mutex::new(regex), pattern_len, source, groups: OnceLock::new() })
     }
 
     /// Returns the number of patterns.
@@ -73,8 +73,32 @@ impl Engine {
     pub fn create_cache(self: &Arc<Engine>) -> Result<Cache, BuildError> {
         let mut cache = Handle::closed();
         raw::lazydfa_cache_new(&mut cache, &mut self.lock()).built()?;
-        Ok(Cache { handle: Mutex::new(cache), engine: Arc::clone(self) })
+        Ok(Cache { handle: Mutex::new(cache), groups: Mutex::new(None), engine: Arc::clone(self) })
     }
+
+    /// Returns what finds groups, which the first call builds. After an error the next call tries again.
+    pub fn groups(&self) -> Result<&Groups, BuildError> {
+        if let Some(groups) = self.groups.get() {
+            return Ok(groups);
+        }
+        let source = self.source.as_ref().ok_or(BuildErrorKind::NoGroups)?;
+        let _one_builds = self.lock();
+        if let Some(groups) = self.groups.get() {
+            return Ok(groups);
+        }
+        let built = source.build()?;
+        Ok(self.groups.get_or_init(|| built))
+    }
+}
+
+/// Opens a handle on the regex of the texts of patterns.
+pub fn open<P: AsRef<str>>(patterns: &[P], options: &raw::Options) -> Result<Handle, BuildError> {
+    let texts: Vec<raw::Text> = patterns.iter().map(|pattern| raw::Text::of(pattern.as_ref())).collect();
+    let (mut regex, mut error) = (Handle::closed(), raw::Error::new());
+    let status = raw::regex_any_of(&mut regex, &texts, options, &mut error);
+    let span = error.start..error.end;
+    status.built().map_err(|built| built.of_text(error.pattern, span, error.message()))?;
+    Ok(regex)
 }
 
 /// A cache of a regex: the states of its two DFAs that searches have built so far.
@@ -99,6 +123,8 @@ impl Engine {
 /// ```
 pub struct Cache {
     handle: Mutex<Handle>,
+    // A cache for groups, once they were asked for.
+    groups: Mutex<Option<Handle>>,
     engine: Arc<Engine>,
 }
 
@@ -133,11 +159,15 @@ impl Cache {
         self.usage().leaps
     }
 
-    /// Returns how many bytes the cache holds from the allocator, including its leaps. An allocation of n
-    /// bytes counts as n + 8, rounded up to a multiple of 16, and at least as 32, which is what glibc's
-    /// `malloc` takes.
+    /// Returns how many bytes the cache holds from the allocator, including its leaps, and its memory for
+    /// groups if they were asked for. An allocation of n bytes counts as n + 8, rounded up to a multiple of
+    /// 16, and at least as 32, which is what glibc's `malloc` takes.
     pub fn heap_usage(&self) -> usize {
-        self.usage().held
+        let mut groups = raw::Usage::default();
+        if let Some(handle) = self.groups.lock().unwrap_or_else(PoisonError::into_inner).as_mut() {
+            raw::lazydfa_cache_usage(handle, &mut groups);
+        }
+        self.usage().held + groups.held
     }
 
     /// Returns how often the two parts of the cache were cleared: the part of the DFA that searches forward,
@@ -158,7 +188,9 @@ impl Cache {
     /// Resets the cache to a fresh one of the same regex. If an allocation fails, it returns an error, and
     /// the cache is unchanged.
     pub fn try_reset(&mut self) -> Result<(), BuildError> {
-        raw::lazydfa_cache_reset(self.handle()).built()
+        raw::lazydfa_cache_reset(self.handle()).built()?;
+        *self.groups.get_mut().unwrap_or_else(PoisonError::into_inner) = None;
+        Ok(())
     }
 
     /// Whether the cache belongs to these DFAs.
@@ -274,6 +306,22 @@ impl Cache {
         let mut count = 0;
         let status = raw::next_all(self.handle(), haystack, at, room, &mut count);
         (count, status.found(mode))
+    }
+
+    /// Writes the spans of the groups of a match that a search with this cache found in this haystack.
+    pub(crate) fn groups(
+        &mut self,
+        haystack: &[u8],
+        found: &Match,
+        spans: &mut [raw::Span],
+    ) -> Result<(), MatchError> {
+        let groups = self.groups.get_mut().unwrap_or_else(PoisonError::into_inner);
+        let cache = match groups {
+            Some(cache) => cache,
+            None => groups.insert(self.engine.groups()?.create_cache()?),
+        };
+        let mut count = 0;
+        raw::groups(cache, haystack, &found.raw(), spans, &mut count).found(Anchored::No).map(|_| ())
     }
 
     /// Returns the token at the start of the remaining span, which then starts where the token ends.

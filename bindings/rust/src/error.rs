@@ -82,6 +82,8 @@ pub enum BuildErrorKind {
     Starts,
     /// The two NFAs of a pair differ in their numbers of patterns.
     PatternCounts,
+    /// The regex was built from NFAs, not from texts, so it has no groups.
+    NoGroups,
 }
 
 impl BuildError {
@@ -163,6 +165,7 @@ impl fmt::Display for BuildErrorKind {
             BuildErrorKind::NotUtf8 => "a match may be invalid UTF-8",
             BuildErrorKind::Starts => "only some of the starts match the empty string",
             BuildErrorKind::PatternCounts => "the two NFAs have different numbers of patterns",
+            BuildErrorKind::NoGroups => "a regex that was built from NFAs has no groups",
         };
         f.write_str(text)
     }
@@ -204,6 +207,9 @@ pub enum MatchErrorKind {
     /// character. Such a search would have to read earlier bytes again, which are gone. It is possible with
     /// [`utf8`](crate::nfa::thompson::Config::utf8) turned off.
     Skips,
+    /// What finds groups cannot be built: the regex was built from NFAs, or it exceeds a limit
+    /// ([`try_group_info`](crate::hybrid::regex::Regex::try_group_info) says which).
+    NoGroups,
     /// An allocation failed.
     OutOfMemory,
 }
@@ -235,6 +241,16 @@ impl MatchError {
     }
 }
 
+/// The error of a search for groups, where what finds them could not be built.
+impl From<BuildError> for MatchError {
+    fn from(error: BuildError) -> MatchError {
+        match error.kind() {
+            BuildErrorKind::OutOfMemory => MatchError(MatchErrorKind::OutOfMemory),
+            _ => MatchError(MatchErrorKind::NoGroups),
+        }
+    }
+}
+
 impl From<MatchErrorKind> for MatchError {
     fn from(kind: MatchErrorKind) -> MatchError {
         MatchError(kind)
@@ -256,6 +272,7 @@ impl fmt::Display for MatchError {
             MatchErrorKind::Skips => {
                 f.write_str("a regex that skips empty matches inside characters cannot be searched in pieces")
             }
+            MatchErrorKind::NoGroups => f.write_str("what finds the groups of this regex cannot be built"),
             MatchErrorKind::OutOfMemory => f.write_str("out of memory"),
         }
     }

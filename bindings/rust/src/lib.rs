@@ -14,7 +14,7 @@
 //! # Ok::<(), lazydfa::BuildError>(())
 //! ```
 //!
-//! - [`hybrid::regex::Regex`] finds matches, and splits a text into tokens;
+//! - [`hybrid::regex::Regex`] finds matches and their groups, replaces them, and splits a text into tokens;
 //! - [`hybrid::dfa::DFA`] finds one end of a match, and which of many patterns match;
 //! - [`PooledRegex`] is a regex that searches without a cache;
 //! - [`nfa::thompson::Builder`] builds an NFA state by state, for an engine with its own parser.
@@ -22,6 +22,7 @@
 
 mod engine;
 mod error;
+mod groups;
 mod handle;
 pub mod hybrid;
 mod iter;
@@ -34,8 +35,10 @@ pub mod util;
 
 pub use engine::Cache;
 pub use error::{BuildError, BuildErrorKind, MatchError, MatchErrorKind};
-pub use pooled::{PooledMatches, PooledRegex};
+pub use pooled::{PoolGuard, PooledMatches, PooledRegex};
+pub use util::captures::{Captures, Group, Haystack};
 pub use util::primitives::PatternID;
+pub use util::replace::{NoExpand, Replacer};
 pub use util::search::{Anchored, HalfMatch, Input, Match, MatchKind, PatternSet, Span};
 
 /// The programs in the documentation of this crate.

@@ -115,6 +115,40 @@
 //! # Ok::<(), lazydfa::BuildError>(())
 //! ```
 //!
+//! A haystack lives as long as the groups of a match, also without the regex and the cache.
+//!
+//! ```
+//! # use lazydfa::hybrid::regex::Regex;
+//! let text = String::from("abc");
+//! let regex = Regex::new("(b)")?;
+//! let caps = regex.captures(&mut regex.create_cache(), &text).unwrap();
+//! drop(regex);
+//! assert_eq!(&caps[1], "b");
+//! # Ok::<(), lazydfa::BuildError>(())
+//! ```
+//!
+//! ```compile_fail,E0505
+//! # use lazydfa::hybrid::regex::Regex;
+//! let text = String::from("abc");
+//! let regex = Regex::new("(b)")?;
+//! let caps = regex.captures(&mut regex.create_cache(), &text).unwrap();
+//! drop(text);
+//! assert_eq!(&caps[1], "b");
+//! # Ok::<(), lazydfa::BuildError>(())
+//! ```
+//!
+//! A cache is not used while groups are found with it.
+//!
+//! ```compile_fail,E0499
+//! # use lazydfa::hybrid::regex::Regex;
+//! let regex = Regex::new("(b)")?;
+//! let mut cache = regex.create_cache();
+//! let mut found = regex.captures_iter(&mut cache, "abc");
+//! regex.replace(&mut cache, "abc", "$1");
+//! found.next();
+//! # Ok::<(), lazydfa::BuildError>(())
+//! ```
+//!
 //! A pool lives as long as matches are found with one of its caches.
 //!
 //! ```compile_fail,E0505

@@ -1,7 +1,10 @@
 //! Searches to which no cache is passed.
-use crate::hybrid::regex::Regex;
+use crate::hybrid::regex::{CaptureMatches, Regex, Split, SplitN};
 use crate::iter::Matches;
+use crate::util::captures::{CaptureNames, Captures, Haystack};
+use crate::util::replace::Replacer;
 use crate::{BuildError, Cache, Input, Match, MatchError};
+use std::borrow::{Borrow, BorrowMut, Cow};
 use std::fmt;
 use std::iter::FusedIterator;
 use std::sync::{Mutex, MutexGuard, PoisonError};
@@ -76,11 +79,87 @@ impl PooledRegex {
         PooledMatches { lent: self.lend(), matches: Matches::new(input.into()) }
     }
 
+    /// Returns the number of groups of the first pattern, as [`Regex::captures_len`] does.
+    pub fn captures_len(&self) -> usize {
+        self.regex.captures_len()
+    }
+
+    /// Returns the names of the groups of the first pattern, as [`Regex::capture_names`] does.
+    pub fn capture_names(&self) -> CaptureNames<'_> {
+        self.regex.capture_names()
+    }
+
+    /// Searches for the first match, and returns its groups. It panics as [`Regex::captures`] does.
+    pub fn captures<'h, H: Haystack<'h>>(&self, haystack: H) -> Option<Captures<'h, H::Text>> {
+        self.regex.captures(self.lend().cache(), haystack)
+    }
+
+    /// Searches for the first match, and returns its groups. It fails as [`Regex::try_captures`] does.
+    pub fn try_captures<'h, H: Haystack<'h>>(
+        &self,
+        haystack: H,
+    ) -> Result<Option<Captures<'h, H::Text>>, MatchError> {
+        self.regex.try_captures(self.lend().cache(), haystack)
+    }
+
+    /// Returns an iterator over the groups of matches. The iterator keeps one cache until it is dropped, and panics as
+    /// that of [`Regex::captures_iter`] does.
+    pub fn captures_iter<'h, H: Haystack<'h>>(
+        &self,
+        haystack: H,
+    ) -> CaptureMatches<'h, PoolGuard<'_>, H::Text> {
+        self.regex.captures_iter(self.lend(), haystack)
+    }
+
+    /// Replaces the first match. It panics as [`Regex::replace`] does.
+    pub fn replace<'h, H: Haystack<'h>, R: Replacer<H::Text>>(
+        &self,
+        haystack: H,
+        rep: R,
+    ) -> Cow<'h, H::Text> {
+        self.regex.replace(self.lend().cache(), haystack, rep)
+    }
+
+    /// Replaces all matches that do not overlap. It panics as [`Regex::replace`] does.
+    pub fn replace_all<'h, H: Haystack<'h>, R: Replacer<H::Text>>(
+        &self,
+        haystack: H,
+        rep: R,
+    ) -> Cow<'h, H::Text> {
+        self.regex.replace_all(self.lend().cache(), haystack, rep)
+    }
+
+    /// Replaces as many matches as the limit says; all of them if it is 0. It panics as [`Regex::replace`] does.
+    pub fn replacen<'h, H: Haystack<'h>, R: Replacer<H::Text>>(
+        &self,
+        haystack: H,
+        limit: usize,
+        rep: R,
+    ) -> Cow<'h, H::Text> {
+        self.regex.replacen(self.lend().cache(), haystack, limit, rep)
+    }
+
+    /// Returns an iterator over the parts of a haystack between matches, which keeps one cache until it is dropped. It
+    /// panics if a search fails.
+    pub fn split<'h, H: Haystack<'h>>(&self, haystack: H) -> Split<'h, PoolGuard<'_>, H::Text> {
+        self.regex.split(self.lend(), haystack)
+    }
+
+    /// Returns an iterator over at most `limit` parts of a haystack, the last of which is the rest. It panics if a
+    /// search fails.
+    pub fn splitn<'h, H: Haystack<'h>>(
+        &self,
+        haystack: H,
+        limit: usize,
+    ) -> SplitN<'h, PoolGuard<'_>, H::Text> {
+        self.regex.splitn(self.lend(), haystack, limit)
+    }
+
     /// Takes a cache from the pool, or creates one.
-    fn lend(&self) -> Lent<'_> {
+    fn lend(&self) -> PoolGuard<'_> {
         let kept = lock(&self.caches).pop();
         let cache = kept.unwrap_or_else(|| self.regex.create_cache());
-        Lent { cache: Some(cache), pool: &self.caches }
+        PoolGuard { cache: Some(cache), pool: &self.caches }
     }
 }
 
@@ -110,21 +189,33 @@ fn lock(pool: &Mutex<Vec<Cache>>) -> MutexGuard<'_, Vec<Cache>> {
     pool.lock().unwrap_or_else(PoisonError::into_inner)
 }
 
-/// A cache that is in use. Dropping this puts the cache back, also after a panic: after a search that fails,
+/// A cache of a pool that is in use. Dropping this puts the cache back, also after a panic: after a search that fails,
 /// the cache can serve other searches.
 #[derive(Debug)]
-struct Lent<'p> {
+pub struct PoolGuard<'p> {
     cache: Option<Cache>,
     pool: &'p Mutex<Vec<Cache>>,
 }
 
-impl Lent<'_> {
+impl PoolGuard<'_> {
     fn cache(&mut self) -> &mut Cache {
         self.cache.as_mut().expect("it is given back when this is dropped")
     }
 }
 
-impl Drop for Lent<'_> {
+impl Borrow<Cache> for PoolGuard<'_> {
+    fn borrow(&self) -> &Cache {
+        self.cache.as_ref().expect("it is given back when this is dropped")
+    }
+}
+
+impl BorrowMut<Cache> for PoolGuard<'_> {
+    fn borrow_mut(&mut self) -> &mut Cache {
+        self.cache()
+    }
+}
+
+impl Drop for PoolGuard<'_> {
     fn drop(&mut self) {
         lock(self.pool).extend(self.cache.take());
     }
@@ -133,7 +224,7 @@ impl Drop for Lent<'_> {
 /// An iterator over the matches of an input, with a cache of a pool.
 #[derive(Debug)]
 pub struct PooledMatches<'p, 'h> {
-    lent: Lent<'p>,
+    lent: PoolGuard<'p>,
     matches: Matches<'h>,
 }
 

@@ -49,6 +49,14 @@ pub struct Half {
     pub reserved: u32,
 }
 
+/// The span of a group, by its offsets in bytes. Both are `usize::MAX` if the group took no part in the match.
+#[repr(C)]
+#[derive(Clone, Copy, Debug, Default)]
+pub struct Span {
+    pub start: usize,
+    pub end: usize,
+}
+
 /// The position of a walk: how many bytes of the piece the call has read, and how many patterns match at the
 /// offset, in bytes, which is meaningful only if there are some.
 #[repr(C)]
@@ -139,7 +147,7 @@ pub struct TextOptions {
     pub octal: u32,
     pub bytes: u32,
     pub forward_only: u32,
-    pub reserved: u32,
+    pub groups: u32,
 }
 
 /// All options, and the quit bytes.
@@ -303,6 +311,9 @@ unsafe extern "C" {
     /// Writes one of the patterns that match at the walk's position, given by its index.
     pub safe fn lazydfa_walk_pattern(cache: &mut Handle, index: usize, pattern: &mut u32) -> Status;
 
+    /// Writes how many groups a pattern has, group 0 included.
+    pub safe fn lazydfa_group_count(regex: &mut Handle, pattern: u32, count: &mut usize) -> Status;
+
     fn lazydfa_add_sparse(builder: &mut Handle, edges: *const Edge, length: usize, id: &mut u32) -> Status;
     fn lazydfa_add_union(builder: &mut Handle, ids: *const u32, length: usize, id: &mut u32) -> Status;
     fn lazydfa_add_union_reverse(
@@ -410,6 +421,23 @@ unsafe extern "C" {
         patterns: *mut u32,
         room: usize,
         count: &mut usize,
+    ) -> Status;
+    fn lazydfa_groups(
+        cache: &mut Handle,
+        haystack: *const u8,
+        length: usize,
+        found: &Match,
+        groups: *mut Span,
+        room: usize,
+        count: &mut usize,
+    ) -> Status;
+    fn lazydfa_group_name(
+        regex: &mut Handle,
+        pattern: u32,
+        group: usize,
+        name: *mut u8,
+        room: usize,
+        length: &mut usize,
     ) -> Status;
     fn lazydfa_pieces_read(cache: &mut Handle, piece: *const u8, length: usize, done: &mut u32) -> Status;
     fn lazydfa_walk_read(cache: &mut Handle, piece: *const u8, length: usize, stop: &mut Stop) -> Status;
@@ -550,6 +578,33 @@ pub fn which(
     let (room, patterns) = (patterns.len(), patterns.as_mut_ptr());
     // SAFETY: Each pointer and the length beside it are those of one slice.
     unsafe { lazydfa_which(cache, at, length, input, room, patterns, room, count) }
+}
+
+/// Writes the spans of the groups of a match, as many as there is room for, and how many groups its pattern has.
+pub fn groups(
+    cache: &mut Handle,
+    haystack: &[u8],
+    found: &Match,
+    groups: &mut [Span],
+    count: &mut usize,
+) -> Status {
+    let (at, length) = (haystack.as_ptr(), haystack.len());
+    let (room, groups) = (groups.len(), groups.as_mut_ptr());
+    // SAFETY: Each pointer and the length beside it are those of one slice.
+    unsafe { lazydfa_groups(cache, at, length, found, groups, room, count) }
+}
+
+/// Writes the name of a group, as many whole characters as there is room for, and a zero; and the length of the whole
+/// name, in bytes.
+pub fn group_name(
+    regex: &mut Handle,
+    pattern: u32,
+    group: usize,
+    name: &mut [u8],
+    length: &mut usize,
+) -> Status {
+    // SAFETY: The pointer and the length are those of one slice.
+    unsafe { lazydfa_group_name(regex, pattern, group, name.as_mut_ptr(), name.len(), length) }
 }
 
 /// Reads the next piece of the search that was begun over a cache, and writes 1 if the result is final,

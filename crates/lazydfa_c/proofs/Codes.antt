@@ -8,8 +8,8 @@ use Rattle.lazydfa_c.specs.declared.code.Code.TheVariants.{NoPattern, Unfinished
 use Rattle.lazydfa_c.specs.declared.code.Code.TheVariants.{TooLarge, StateRange, StartRange, PatternRange, Ranges}
 use Rattle.lazydfa_c.specs.declared.code.Code.TheVariants.{NotLazy, NotUtf8, Starts, Unsupported, Capacity}
 use Rattle.lazydfa_c.specs.declared.code.Code.TheVariants.{StateIDs, PatternCounts, OneStart, Quit, GaveUp, Anchored}
-use Rattle.lazydfa_c.specs.declared.code.Code.TheVariants.{NotAPair, NoToken, Skips, NotBegun, Syntax, NotText}
-use Rattle.lazydfa_c.specs.declared.code.Code.TheVariants.{NotCompiled}
+use Rattle.lazydfa_c.specs.declared.code.Code.TheVariants.{NotAPair, NoToken, Skips, NotBegun, NoGroups}
+use Rattle.lazydfa_c.specs.declared.code.Code.TheVariants.{Syntax, NotText, NotCompiled}
 
 -- the code of a number
 abbrev code_of : ℕ → Option Code
@@ -45,6 +45,7 @@ code_of n =
     if n == 34 then Some NoToken else
     if n == 35 then Some Skips else
     if n == 36 then Some NotBegun else
+    if n == 37 then Some NoGroups else
     if n == 40 then Some Syntax else
     if n == 41 then Some NotText else
     if n == 42 then Some NotCompiled else
@@ -83,6 +84,7 @@ gives_back NotAPair = refl
 gives_back NoToken = refl
 gives_back Skips = refl
 gives_back NotBegun = refl
+gives_back NoGroups = refl
 gives_back Syntax = refl
 gives_back NotText = refl
 gives_back NotCompiled = refl

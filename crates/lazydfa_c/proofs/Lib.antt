@@ -3,6 +3,7 @@ mod Codes
 mod Copying
 mod Cutting
 mod Errors
+mod Grouping
 mod Messages
 mod Slots
 mod States
@@ -10,5 +11,6 @@ mod Streams
 mod Values
 mod Written
 mod Opening
+mod Sharing
 mod Texts
 mod Narrowing

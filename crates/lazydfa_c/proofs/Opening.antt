@@ -1,18 +1,18 @@
 -- Opening a handle on a regex that was built, by the result of the opening.
 use Rattle.std.proofs.Common.{◌≡◌, Ok, Err, OnErr, OnOk}
 use Rattle.std.specs.Prelude.{IfErr, Result}
-use Rattle.patterns.specs.declared.pattern.Pattern.{Pattern}
 use Rattle.lazydfa_c.specs.Builds.{IsRegexIn, OpensRegex, LacksObject}
+use Rattle.lazydfa_c.specs.Programs.{Contents}
 use Rattle.lazydfa_c.specs.Statuses.{plain}
 use Rattle.lazydfa_c.specs.declared.code.Code.TheVariants as code
 use Rattle.lazydfa_c.specs.declared.handle.Handle.{Handle}
 use Rattle.lazydfa_c.specs.declared.status.Status.{Status}
 
 pub opens :
-    (Makes : Pattern → Type 0) (Refuses : Status → Type 0) (pattern : Pattern) (old new : Handle)
+    (Makes : Contents → Type 0) (Refuses : Status → Type 0) (contents : Contents) (old new : Handle)
     (r : Result (Unit {0}) Status)
-    → Makes pattern → OnOk r (IsRegexIn pattern new) → OnErr r (new ≡ old)
+    → Makes contents → OnOk r (IsRegexIn contents new) → OnErr r (new ≡ old)
     → IfErr r (λ s. s ≡ plain code.Memory) → OpensRegex Makes Refuses old new r
-opens Makes Refuses pattern old new (Ok u) makes opened same memory =
-    record { pattern = pattern; made = makes; opened = opened }
-opens Makes Refuses pattern old new (Err e) makes opened same memory = (same, LacksObject memory)
+opens Makes Refuses contents old new (Ok u) makes opened same memory =
+    record { contents = contents; made = makes; opened = opened }
+opens Makes Refuses contents old new (Err e) makes opened same memory = (same, LacksObject memory)

@@ -1,13 +1,14 @@
 -- Opening a handle on the regex of texts, by the result of opening it on the regex of their NFA.
 use Rattle.std.proofs.Common.{ℕ, zero, suc, ◌≡◌, ◌∙◌, ◌<◌, List, Result, Ok, Err, IfOk, ap}
 use Rattle.std.proofs.Common.{arith, length, sym, subst, refl}
-use Rattle.std.specs.Prelude.{IfErr, OnErr, OnOk, sum}
+use Rattle.std.specs.Prelude.{IfErr, OnErr, OnOk, Option, sum}
 use Rattle.automata_base.specs.Nfas.Nodes.{Automaton}
 use Rattle.automata_base.specs.declared.nfa.thompson.state.NfaError.{NfaError}
 use Rattle.automata_base.specs.declared.nfa.thompson.state.NfaError.TheVariants as nfa_error
 use Rattle.automata_config.specs.Options.{Options}
 use Rattle.automata_hybrid.specs.Machines.Machine.{Machine}
-use Rattle.patterns.specs.Patterns.{IsNfaOf}
+use Rattle.meta.specs.declared.program.Programs.{Programs}
+use Rattle.patterns.specs.Patterns.{IsNfaOf, config_of}
 use Rattle.patterns.specs.declared.compile.Options.{Options as Reading}
 use Rattle.patterns.specs.declared.error.Fault.{Fault}
 use Rattle.patterns.specs.declared.error.Fault.TheVariants.{Syntax, UnicodeWord, TooLarge, Malformed, Refused, Unbuilt}
@@ -19,6 +20,7 @@ use Rattle.lazydfa_c.specs.Builds.{HoldsRegex, RefusesRegex}
 use Rattle.lazydfa_c.specs.Codes.{number_of}
 use Rattle.lazydfa_c.specs.Facts.{ExceedsLimits, Fails, HasFacts, IsFactsFailure, IsNotText, IsNoPattern, LacksMemory}
 use Rattle.lazydfa_c.specs.Facts.{Reports, ReportsFacts, no_facts}
+use Rattle.lazydfa_c.specs.Programs.{HasPrograms, HasProgramsFor}
 use Rattle.lazydfa_c.specs.Statuses.{done_status, fault_status, nfa_code, plain, regex_status, status_at}
 use Rattle.lazydfa_c.specs.Texts.{CannotCut, HasFault, HoldsTexts, IsCutError, IsFailure, IsForwardOnly}
 use Rattle.lazydfa_c.specs.Texts.{IsRegexErrorStatus, IsReportOfAll, LacksRegex}
@@ -151,12 +153,22 @@ module _ (o : Options) (nfa : Automaton) where
 module _ (o : Options) (options : TextOptions) (settings : Settings) (bytes lengths : List ℕ) where
   -- a regex is built from the NFA of the texts
   pub opens_texts :
-      (nfa : Automaton) (new : Handle) (from to : Report)
-      → sum lengths ≡ length bytes → IsNfaOf (reading_of options settings) (texts_in bytes lengths) nfa → to ≡ from
-      → HoldsRegex (IsPatternFor options.forward_only o nfa) new
+      (nfa : Automaton) (programs : Option Programs) (new : Handle) (from to : Report)
+      → sum lengths ≡ length bytes → IsNfaOf (reading_of options settings) (texts_in bytes lengths) nfa
+      → HasProgramsFor options.groups (config_of (reading_of options settings)) (texts_in bytes lengths) programs
+      → to ≡ from → HoldsRegex (HasPrograms programs (IsPatternFor options.forward_only o nfa)) new
       → HoldsTexts o options settings bytes lengths new × (to ≡ from)
-  opens_texts nfa new from to whole meant same opened =
-      (record { whole = whole; nfa = nfa; meant = meant; holds = opened }, same)
+  opens_texts nfa programs new from to whole meant grouped same opened = (
+    record {
+      whole = whole;
+      nfa = nfa;
+      meant = meant;
+      programs = programs;
+      grouped = grouped;
+      holds = opened;
+    },
+    same,
+  )
 
   -- no regex is built from it
   pub regex_lacks :

@@ -14,10 +14,10 @@ use Rattle.regex_automata.specs.Regexes.Caches.{AreFresh}
 use Rattle.regex_automata.specs.Regexes.SoundPairs.{IsSoundPair}
 use Rattle.regex_automata.specs.declared.hybrid.regex.Regex.{Regex}
 use Rattle.regex_automata.specs.declared.hybrid.regex.build.RegexBuildError.{RegexBuildError}
-use Rattle.patterns.specs.declared.pattern.Pattern.{Pattern}
 use Rattle.lazydfa_c.specs.Calls.{ReadsHandle}
 use Rattle.lazydfa_c.specs.Drafts.{MakesNfa, is_state}
 use Rattle.lazydfa_c.specs.Handles.{is_open}
+use Rattle.lazydfa_c.specs.Programs.{Contents, contents_of}
 use Rattle.lazydfa_c.specs.Statuses.{build_status, done_status, plain, regex_status}
 use Rattle.lazydfa_c.specs.declared.code.Code.TheVariants as code
 use Rattle.lazydfa_c.specs.declared.handle.Handle.{Handle}
@@ -66,26 +66,27 @@ abbrev pub IsKeepingPairError : Options → (forward reverse : Automaton) → St
 IsKeepingPairError o forward reverse status =
     (front back : Automaton) × AreKeeping forward reverse front back × IsPairError o front back status
 
--- the object is this regex, with its needles
-abbrev pub IsRegexObject : Pattern → Object → Type 0
-IsRegexObject pattern (RegexObject r) = r.pattern.value ≡ pattern
-IsRegexObject pattern (Builder b) = ⊥
-IsRegexObject pattern (CacheObject s) = ⊥
+-- the object is this regex, with its needles and programs
+abbrev pub IsRegexObject : Contents → Object → Type 0
+IsRegexObject contents (RegexObject r) = contents_of r ≡ contents
+IsRegexObject contents (Builder b) = ⊥
+IsRegexObject contents (CacheObject s) = ⊥
 
--- the handle is open on this regex, with its needles
-pub record IsRegexIn (pattern : Pattern) (handle : Handle) : Type 0 where
+-- the handle is open on this regex, with its needles and programs
+pub record IsRegexIn (contents : Contents) (handle : Handle) : Type 0 where
   -- the handle is open
   pub opened : handle.live ≡ 1
   -- its object is this regex
-  pub object : IsSomeAnd handle.slot.value (IsRegexObject pattern)
+  pub object : IsSomeAnd handle.slot.value (IsRegexObject contents)
 
--- a regex of this kind, without needles
-abbrev pub HasNoNeedles : (Makes : Regex → Type 0) → Pattern → Type 0
-HasNoNeedles Makes pattern = Makes pattern.regex × (pattern.prefilter ≡ None)
+-- a regex of this kind, without needles or programs
+abbrev pub HasNoExtras : (Makes : Regex → Type 0) → Contents → Type 0
+HasNoExtras Makes contents =
+    Makes contents.pattern.regex × (contents.pattern.prefilter ≡ None) × (contents.programs ≡ None)
 
--- a regex of this kind, without needles, whose iterations make no attempts to find matches at once
-abbrev pub MakesNoAttempts : (Makes : Regex → Type 0) → Pattern → Type 0
-MakesNoAttempts Makes pattern = HasNoNeedles Makes pattern × (pattern.attempts ≡ false)
+-- a regex of this kind, without needles or programs, whose iterations make no attempts to find matches at once
+abbrev pub MakesNoAttempts : (Makes : Regex → Type 0) → Contents → Type 0
+MakesNoAttempts Makes contents = HasNoExtras Makes contents × (contents.pattern.attempts ≡ false)
 
 -- whether both starts are valid state IDs
 abbrev pub are_starts : StartStates → Bool
@@ -162,13 +163,13 @@ options_for s quits starts =
     if has_one_start s starts then Err (plain code.OneStart) else options_of s quits (kind_of s.match_kind)
 
 -- a handle is open on a regex of this kind
-pub record HoldsRegex (Makes : Pattern → Type 0) (new : Handle) : Type 0 where
-  -- the regex, with its needles
-  pub pattern : Pattern
+pub record HoldsRegex (Makes : Contents → Type 0) (new : Handle) : Type 0 where
+  -- the regex, with its needles and programs
+  pub contents : Contents
   -- it is of this kind
-  pub made : Makes pattern
+  pub made : Makes contents
   -- the handle is open on it
-  pub opened : IsRegexIn pattern new
+  pub opened : IsRegexIn contents new
 
 -- why no handle is opened on a regex
 pub data IsNotOpened (Refuses : Status → Type 0) (e : Status) : Type 0 where
@@ -178,7 +179,7 @@ pub data IsNotOpened (Refuses : Status → Type 0) (e : Status) : Type 0 where
   LacksObject : e ≡ plain code.Memory → IsNotOpened Refuses e
 
 -- a handle is opened on the regex that the library's call returned, or is unchanged, and the status says why
-abbrev pub OpensRegex : (Makes : Pattern → Type 0) → (Refuses : Status → Type 0)
+abbrev pub OpensRegex : (Makes : Contents → Type 0) → (Refuses : Status → Type 0)
     → (old new : Handle) → Result (Unit {0}) Status → Type 0
 OpensRegex Makes Refuses old new (Ok u) = HoldsRegex Makes new
 OpensRegex Makes Refuses old new (Err e) = (new ≡ old) × IsNotOpened Refuses e
@@ -186,7 +187,7 @@ OpensRegex Makes Refuses old new (Err e) = (new ≡ old) × IsNotOpened Refuses 
 -- a handle is opened on the regex of an NFA, if there is one
 abbrev pub OpensOf : Options → (old new : Handle) → Result Automaton Status → Result (Unit {0}) Status → Type 0
 OpensOf o old new (Ok nfa) done =
-    OpensRegex (HasNoNeedles (IsBuiltRegex o nfa)) (IsBuildErrorStatus o nfa) old new done
+    OpensRegex (HasNoExtras (IsBuiltRegex o nfa)) (IsBuildErrorStatus o nfa) old new done
 OpensOf o old new (Err e) done = (new ≡ old) × (done ≡ Err e)
 
 -- a handle is opened on the regex of two NFAs, if there are both
@@ -268,9 +269,9 @@ BuildsRegexPair settings quits forward reverse old new from left from_reverse le
     (options_for settings quits forward) done
     × (status ≡ done_status done)
 
--- the object's regex is shared, with its needles, if the object is a regex and the allocation succeeds
+-- the object's regex is shared, with its needles and programs, if the object is a regex and the allocation succeeds
 abbrev pub IsShareOf : Object → Result Shared Status → Type 0
-IsShareOf (RegexObject r) (Ok s) = s.pattern.value ≡ r.pattern.value
+IsShareOf (RegexObject r) (Ok s) = contents_of s ≡ contents_of r
 IsShareOf (RegexObject r) (Err status) = status ≡ plain code.Memory
 IsShareOf (Builder b) result = result ≡ Err (plain code.Kind)
 IsShareOf (CacheObject s) result = result ≡ Err (plain code.Kind)
@@ -298,7 +299,7 @@ pub data IsNotReversed (r : Regex) (status : Status) : Type 0 where
 -- succeeds
 abbrev pub IsReverseOf : Object → Result Shared Status → Type 0
 IsReverseOf (RegexObject r) (Ok s) =
-    MakesNoAttempts (λ regex. regex ≡ reversed r.pattern.value.regex) s.pattern.value
+    MakesNoAttempts (λ regex. regex ≡ reversed r.pattern.value.regex) (contents_of s)
 IsReverseOf (RegexObject r) (Err status) = IsNotReversed r.pattern.value.regex status
 IsReverseOf (Builder b) result = result ≡ Err (plain code.Kind)
 IsReverseOf (CacheObject s) result = result ≡ Err (plain code.Kind)
@@ -308,40 +309,40 @@ abbrev pub ReversesRegex : (old new : Handle) → Result Shared Status → Type 
 ReversesRegex old new result = ReadsHandle IsReverseOf old new result
 
 -- a fresh cache of a regex, with an empty set of its patterns
-pub record IsFreshOf (pattern : Pattern) (s : Searcher) : Type 0 where
-  -- it belongs to this regex, and has its needles
-  pub regex_is : s.shared.pattern.value ≡ pattern
+pub record IsFreshOf (contents : Contents) (s : Searcher) : Type 0 where
+  -- it belongs to this regex, and has its needles and programs
+  pub regex_is : contents_of s.shared ≡ contents
   -- the caches of both DFAs are fresh
-  pub cache : AreFresh pattern.regex s.cache
+  pub cache : AreFresh contents.pattern.regex s.cache
   -- its set has room for all patterns of the regex, and is empty
-  pub patterns : s.patterns ≡ replicate (length pattern.regex.forward.nfa.start_pattern) false
+  pub patterns : s.patterns ≡ replicate (length contents.pattern.regex.forward.nfa.start_pattern) false
   -- neither a search nor a walk in pieces was begun over it
   pub pieces : s.pieces ≡ record { search = None; walk = None }
 
 -- the object is a fresh cache of this regex
-abbrev pub IsCacheObject : Pattern → Object → Type 0
-IsCacheObject pattern (CacheObject s) = IsFreshOf pattern s
-IsCacheObject pattern (Builder b) = ⊥
-IsCacheObject pattern (RegexObject r) = ⊥
+abbrev pub IsCacheObject : Contents → Object → Type 0
+IsCacheObject contents (CacheObject s) = IsFreshOf contents s
+IsCacheObject contents (Builder b) = ⊥
+IsCacheObject contents (RegexObject r) = ⊥
 
 -- the handle is open on a fresh cache of this regex
-pub record IsCacheIn (pattern : Pattern) (handle : Handle) : Type 0 where
+pub record IsCacheIn (contents : Contents) (handle : Handle) : Type 0 where
   -- the handle is open
   pub opened : handle.live ≡ 1
   -- its object is a fresh cache of this regex
-  pub object : IsSomeAnd handle.slot.value (IsCacheObject pattern)
+  pub object : IsSomeAnd handle.slot.value (IsCacheObject contents)
 
 -- a handle is opened on a shared regex, or on a cache of it; without a regex, or if the allocation fails, it is
 -- unchanged
-abbrev pub OpensOn : (IsIn : Pattern → Handle → Type 0) → (old new : Handle) → Result Shared Status
+abbrev pub OpensOn : (IsIn : Contents → Handle → Type 0) → (old new : Handle) → Result Shared Status
     → Result (Unit {0}) Status → Type 0
-OpensOn IsIn old new (Ok shared) (Ok u) = IsIn shared.pattern.value new
+OpensOn IsIn old new (Ok shared) (Ok u) = IsIn (contents_of shared) new
 OpensOn IsIn old new (Ok shared) (Err status) = (new ≡ old) × (status ≡ plain code.Memory)
 OpensOn IsIn old new (Err e) done = (new ≡ old) × (done ≡ Err e)
 
 -- a handle is opened on the regex that another handle gives, or on a cache of it
 pub record OpensFrom
-    (Gives : (from left : Handle) → Result Shared Status → Type 0) (IsIn : Pattern → Handle → Type 0)
+    (Gives : (from left : Handle) → Result Shared Status → Type 0) (IsIn : Contents → Handle → Type 0)
     (old new : Handle) (from left : Handle) (done : Result (Unit {0}) Status)
     : Type 0 where
   -- if the handle is already open, both handles are unchanged, and that is reported

@@ -6,8 +6,8 @@ use Rattle.lazydfa_c.specs.declared.code.Code.TheVariants.{NoPattern, Unfinished
 use Rattle.lazydfa_c.specs.declared.code.Code.TheVariants.{TooLarge, StateRange, StartRange, PatternRange, Ranges}
 use Rattle.lazydfa_c.specs.declared.code.Code.TheVariants.{NotLazy, NotUtf8, Starts, Unsupported, Capacity}
 use Rattle.lazydfa_c.specs.declared.code.Code.TheVariants.{StateIDs, PatternCounts, OneStart, Quit, GaveUp, Anchored}
-use Rattle.lazydfa_c.specs.declared.code.Code.TheVariants.{NotAPair, NoToken, Skips, NotBegun, Syntax, NotText}
-use Rattle.lazydfa_c.specs.declared.code.Code.TheVariants.{NotCompiled}
+use Rattle.lazydfa_c.specs.declared.code.Code.TheVariants.{NotAPair, NoToken, Skips, NotBegun, NoGroups}
+use Rattle.lazydfa_c.specs.declared.code.Code.TheVariants.{Syntax, NotText, NotCompiled}
 
 -- the number of a code
 abbrev pub number_of : Code → ℕ
@@ -42,6 +42,7 @@ number_of NotAPair = 33
 number_of NoToken = 34
 number_of Skips = 35
 number_of NotBegun = 36
+number_of NoGroups = 37
 number_of Syntax = 40
 number_of NotText = 41
 number_of NotCompiled = 42

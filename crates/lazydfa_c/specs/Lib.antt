@@ -6,10 +6,12 @@ pub mod Closing
 pub mod Codes
 pub mod Drafts
 pub mod Errors
+pub mod Groups
 pub mod Handles
 pub mod Held
 pub mod Limits
 pub mod Pieces
+pub mod Programs
 pub mod Requests
 pub mod Statuses
 pub mod Stops

@@ -1,13 +1,14 @@
 -- Contracts of the calls that build regexes of the texts of patterns.
 use Rattle.std.specs.Prelude.{ℕ, zero, suc, ◌≡◌, ◌≢◌, ◌==◌, ◌<◌, ◌≤◌, Bool, true, false, not, List, [], ◌∷◌, ◌++◌, All}
-use Rattle.std.specs.Prelude.{IsCharBoundary, IsUtf8, Some, Result, Ok, Err, drop, if◌then◌else◌, length}
+use Rattle.std.specs.Prelude.{IsCharBoundary, IsUtf8, Option, Some, Result, Ok, Err, drop, if◌then◌else◌, length}
 use Rattle.std.specs.Prelude.{slice_get, string_bytes, sum, take}
 use Rattle.core.specs.Str.{IsValidUpTo}
 use Rattle.automata_base.specs.Nfas.Nodes.{Automaton}
 use Rattle.automata_base.specs.declared.nfa.thompson.state.State.TheVariants.{Fail}
 use Rattle.automata_config.specs.Options.{Options}
-use Rattle.patterns.specs.Faults.{IsNfaFault}
-use Rattle.patterns.specs.Patterns.{IsNfaOf}
+use Rattle.meta.specs.declared.program.Programs.{Programs}
+use Rattle.patterns.specs.Faults.{IsFirstFault, IsNfaFault}
+use Rattle.patterns.specs.Patterns.{IsNfaOf, config_of}
 use Rattle.patterns.specs.declared.compile.Options.{Options as Reading}
 use Rattle.patterns.specs.declared.error.Fault.{Fault}
 use Rattle.patterns.specs.declared.error.Fault.TheVariants.{Syntax, UnicodeWord, TooLarge, Malformed, Refused, Unbuilt}
@@ -21,6 +22,7 @@ use Rattle.lazydfa_c.specs.Caches.{written_over}
 use Rattle.lazydfa_c.specs.Codes.{number_of}
 use Rattle.lazydfa_c.specs.Handles.{is_open}
 use Rattle.lazydfa_c.specs.Limits.{admits}
+use Rattle.lazydfa_c.specs.Programs.{HasPrograms, HasProgramsFor}
 use Rattle.lazydfa_c.specs.Statuses.{done_status, fault_status, plain, status_at}
 use Rattle.lazydfa_c.specs.declared.code.Code.TheVariants as code
 use Rattle.lazydfa_c.specs.declared.handle.Handle.{Handle}
@@ -148,7 +150,13 @@ pub data IsCutError (bytes lengths : List ℕ) (old new : Refusal) (status : Sta
   -- the allocation of the parts fails
   LacksParts : status ≡ plain code.Memory → new ≡ old → IsCutError bytes lengths old new status
 
--- why texts have no NFA, and what is reported of it
+-- a text has no pattern, which is reported
+abbrev pub HasFirstFault : Reading → (texts : List (List ℕ)) → (new : Report) → Status → Type 0
+HasFirstFault reading texts new status =
+    (error : PatternError) × IsFirstFault reading texts error × (status ≡ fault_status error.fault)
+    × (new.refusal ≡ refusal_of error (length (string_bytes new.message)))
+
+-- why texts have no NFA, or no programs, and what is reported of it
 pub data LacksNfa (reading : Reading) (bytes lengths : List ℕ) (old new : Report) (status : Status) : Type 0 where
   -- they are not split; the message is empty
   CannotCut :
@@ -186,8 +194,13 @@ pub record HoldsTexts (o : Options) (options : TextOptions) (settings : Settings
   pub nfa : Automaton
   -- it matches what the texts mean
   pub meant : IsNfaOf (reading_of options settings) (texts_in bytes lengths) nfa
-  -- the handle is open on its regex
-  pub holds : HoldsRegex (IsPatternFor options.forward_only o nfa) handle
+  -- the programs
+  pub programs : Option Programs
+  -- if groups are asked for, they find those of the texts
+  pub grouped :
+      HasProgramsFor options.groups (config_of (reading_of options settings)) (texts_in bytes lengths) programs
+  -- the handle is open on the regex of the NFA, with the programs
+  pub holds : HoldsRegex (HasPrograms programs (IsPatternFor options.forward_only o nfa)) handle
 
 -- the handle is opened on the regex of texts, or is unchanged, and the status says why there is no such regex
 abbrev pub OpensTexts : Options → TextOptions → Settings → (bytes lengths : List ℕ) → (old new : Handle)

@@ -1,13 +1,15 @@
 //! Regexes and caches.
-ghost use Rattle.std.specs.Prelude.{◌≡◌, IfErr, IfOk, None, Ok, OnErr, OnOk, Some};
+ghost use Rattle.std.specs.Prelude.{◌≡◌, IfErr, IfOk, None, Ok, OnErr, OnOk, Some, option_map};
 ghost use Rattle.automata_config.specs.Options.{overwritten, unset};
 ghost use Rattle.lazydfa_c.specs.Builds.{IsFreshOf, IsKeepingPairOf, IsKeepingPairError, IsPairOf, IsPairError};
-ghost use Rattle.lazydfa_c.specs.Builds.{HasNoNeedles, IsRegexIn, IsBuiltRegex, IsBuildErrorStatus, BuildsRegex, BuildsRegexPair};
+ghost use Rattle.lazydfa_c.specs.Builds.{HasNoExtras, IsRegexIn, IsBuiltRegex, IsBuildErrorStatus, BuildsRegex};
+ghost use Rattle.lazydfa_c.specs.Builds.{BuildsRegexPair};
 ghost use Rattle.lazydfa_c.specs.Builds.{IsCacheIn, IsNfaIn, IsNfaOfDraft, NewsCache, OpensAfter, OpensFrom, OpensIn};
 ghost use Rattle.lazydfa_c.specs.Builds.{AllStay, IsNotReversed, MakesNoAttempts, OpensPairIn, OpensRegex, ReversesHandle, ReversesRegex};
 ghost use Rattle.lazydfa_c.specs.Builds.{SharesHandle, SharesRegex, WithOptions, options_for, reversed};
 ghost use Rattle.lazydfa_c.specs.Calls.{ReadsHandle};
 ghost use Rattle.lazydfa_c.specs.Handles.{is_open};
+ghost use Rattle.lazydfa_c.specs.Programs.{FitsPrograms, contents_of};
 ghost use Rattle.lazydfa_c.specs.Statuses.{plain};
 ghost use Rattle.lazydfa_c.specs.declared.code.Code.TheVariants as code;
 ghost use Rattle.lazydfa_c.specs.declared.object.Object.TheVariants.{Searcher as CacheObject};
@@ -15,15 +17,16 @@ ghost use Rattle.lazydfa_c.specs.declared.object.Object.TheVariants.{Searcher as
 use crate::builder::state_id;
 use crate::code::Code;
 use crate::handle::Handle;
-use crate::object::{InPieces, Object, Searcher, Shared};
+use crate::object::{GroupMemory, InPieces, Object, Searcher, Shared};
 use crate::settings::Settings;
 use crate::status::Status;
+use meta::Programs;
 use patterns::{Misses, Pattern};
 use regex_automata::PatternSet;
 use regex_automata::hybrid::dfa::Config;
 use regex_automata::hybrid::regex::{self, Regex};
 use regex_automata::nfa::thompson::{Builder, NFA};
-use std::alloc::Global;
+use std::alloc::{AllocError, Global};
 use std::sync::Arc;
 
 /// The states in which searches start.
@@ -101,7 +104,7 @@ pub fn pair_of(forward: NFA, reverse: NFA, config: Config) -> Result<Regex, Stat
 /// Opens a handle on a regex that others may share. If the allocation fails, the handle is unchanged.
 fn open_shared(alloc: Global, handle: &mut Handle, shared: Shared) -> Result<(), Status>
     requires { handle.now.slot.value ≡ None }
-    ensures opened { OnOk result (IsRegexIn shared.pattern.value handle.new) }
+    ensures opened { OnOk result (IsRegexIn (contents_of shared) handle.new) }
     ensures same { OnErr result (handle.new ≡ handle.old) }
     ensures err { IfErr result (λ s. s ≡ plain code.Memory) }
 {
@@ -110,30 +113,49 @@ fn open_shared(alloc: Global, handle: &mut Handle, shared: Shared) -> Result<(),
     Ok(())
 }
 
-/// Shares a regex and opens a handle on it. If an allocation fails, the handle is unchanged.
-pub fn open(alloc: Global, handle: &mut Handle, pattern: Pattern) -> Result<(), Status>
+/// Lets programs be shared, if there are any.
+fn share_programs(
+    alloc: Global,
+    programs: Option<Programs>,
+) -> Result<Option<Arc<Programs>>, AllocError>
+    ensures { IfOk result (λ shared. option_map (λ programs. programs.value) shared ≡ programs) }
+{
+    match programs {
+        Some(programs) => Ok(Some(Arc::new(alloc, programs)?)),
+        None => Ok(None),
+    }
+}
+
+/// Shares a regex, with its programs, and opens a handle on it. If an allocation fails, the handle is unchanged.
+pub fn open(
+    alloc: Global,
+    handle: &mut Handle,
+    pattern: Pattern,
+    programs: Option<Programs>,
+) -> Result<(), Status>
     requires { handle.now.slot.value ≡ None }
-    ensures opened { OnOk result (IsRegexIn pattern handle.new) }
+    ensures opened { OnOk result (IsRegexIn (record { pattern = pattern; programs = programs }) handle.new) }
     ensures same { OnErr result (handle.new ≡ handle.old) }
     ensures err { IfErr result (λ s. s ≡ plain code.Memory) }
 {
-    let shared = Shared {
-        pattern: Arc::new(alloc, pattern)?,
-    };
-    open_shared(alloc, handle, shared)
+    let pattern = Arc::new(alloc, pattern)?;
+    match share_programs(alloc, programs) {
+        Ok(programs) => open_shared(alloc, handle, Shared { pattern, programs }),
+        Err(error) => Err(Status::from(error)),
+    }
 }
 
 /// Opens a handle on the regex of one NFA.
 fn open_sound(alloc: Global, handle: &mut Handle, nfa: NFA, config: Config) -> Result<(), Status>
     requires { handle.now.slot.value ≡ None }
-    ensures { OpensRegex (HasNoNeedles (IsBuiltRegex (overwritten unset config) nfa))
+    ensures { OpensRegex (HasNoExtras (IsBuiltRegex (overwritten unset config) nfa))
         (IsBuildErrorStatus (overwritten unset config) nfa)
         handle.old handle.new result }
 {
     let regex = regex_of(nfa, config)?;
     let mut pattern = Pattern::from_regex(regex);
     pattern.try_first_bytes();
-    open(alloc, handle, pattern)
+    open(alloc, handle, pattern, None)
 }
 
 /// Opens a handle on the regex of two NFAs. An NFA with cycles through look-around assertions keeps its unions.
@@ -151,7 +173,7 @@ fn open_pair(
     let front = forward.keeping_unions();
     let back = reverse.keeping_unions();
     match pair_of(front, back, config) {
-        Ok(regex) => open(alloc, handle, Pattern::from_regex(regex)),
+        Ok(regex) => open(alloc, handle, Pattern::from_regex(regex), None),
         Err(status) => Err(status),
     }
 }
@@ -302,11 +324,23 @@ pub extern "C" fn lazydfa_raw_regex_build_pair(
 
 /// Returns another owner of a shared regex.
 fn share(shared: &Shared) -> Result<Shared, Status>
-    ensures ok { IfOk result (λ s. s.pattern.value ≡ shared.now.pattern.value) }
+    ensures ok { IfOk result (λ s. contents_of s ≡ contents_of shared.now) }
     ensures err { IfErr result (λ s. s ≡ plain code.Memory) }
 {
     let pattern = shared.pattern.clone()?;
-    Ok(Shared { pattern })
+    match &shared.programs {
+        Some(programs) => match programs.clone() {
+            Ok(programs) => Ok(Shared {
+                pattern,
+                programs: Some(programs),
+            }),
+            Err(error) => Err(Status::from(error)),
+        },
+        None => Ok(Shared {
+            pattern,
+            programs: None,
+        }),
+    }
 }
 
 /// Returns another owner of a handle's regex. It fails if the handle is closed or does not own a regex.
@@ -353,7 +387,7 @@ pub extern "C" fn lazydfa_raw_regex_share(
 /// `Code::PatternCounts` if they differ in their numbers of patterns.
 fn reversed(alloc: Global, shared: &Shared) -> Result<Shared, Status>
     ensures ok { IfOk result (λ s.
-        MakesNoAttempts (λ regex. regex ≡ reversed shared.now.pattern.value.regex) s.pattern.value) }
+        MakesNoAttempts (λ regex. regex ≡ reversed shared.now.pattern.value.regex) (contents_of s)) }
     ensures err { IfErr result (IsNotReversed shared.now.pattern.value.regex) }
 {
     let forward = shared.pattern.regex.reverse().clone()?;
@@ -364,6 +398,7 @@ fn reversed(alloc: Global, shared: &Shared) -> Result<Shared, Status>
     let regex = Regex::builder().build_from_dfas(forward, reverse);
     Ok(Shared {
         pattern: Arc::new(alloc, Pattern::from_regex(regex))?,
+        programs: None,
     })
 }
 
@@ -407,13 +442,32 @@ pub extern "C" fn lazydfa_raw_regex_reverse(
     Status::of(reverse_handle(alloc, out, regex))
 }
 
-/// Creates a fresh cache of a regex, with room for a set of the regex's patterns.
+/// Returns the memory for groups, if there are programs.
+fn memory_for(
+    alloc: Global,
+    programs: &Option<Arc<Programs>>,
+) -> Result<Option<GroupMemory>, AllocError>
+    ensures { IfOk result (λ memory.
+        FitsPrograms memory (option_map (λ programs. programs.value) programs.now)) }
+{
+    match programs {
+        Some(programs) => match GroupMemory::new(alloc, programs) {
+            Ok(memory) => Ok(Some(memory)),
+            Err(error) => Err(error),
+        },
+        None => Ok(None),
+    }
+}
+
+/// Creates a fresh cache of a regex, with room for a set of the regex's patterns, and with memory for groups if the regex
+/// has programs.
 fn searcher_of(alloc: Global, shared: Shared) -> Result<Searcher, Status>
-    ensures ok { IfOk result (IsFreshOf shared.pattern.value) }
+    ensures ok { IfOk result (IsFreshOf (contents_of shared)) }
     ensures err { IfErr result (λ s. s ≡ plain code.Memory) }
 {
     let cache = shared.pattern.regex.create_cache()?;
     let patterns = PatternSet::new(alloc, shared.pattern.regex.pattern_len())?;
+    let groups = memory_for(alloc, &shared.programs)?;
     Ok(Searcher {
         shared,
         cache,
@@ -423,6 +477,7 @@ fn searcher_of(alloc: Global, shared: Shared) -> Result<Searcher, Status>
             search: None,
             walk: None,
         },
+        groups,
     })
 }
 

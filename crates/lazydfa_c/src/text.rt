@@ -1,11 +1,13 @@
 //! Regexes built from the texts of patterns.
 ghost use Rattle.std.specs.Prelude.{◌≡◌, [], IfErr, IfOk, None, false, length, map, string_bytes, sum};
 ghost use Rattle.automata_config.specs.Options.{overwritten, unset};
-ghost use Rattle.patterns.specs.Patterns.{IsNfaOf};
+ghost use Rattle.patterns.specs.Patterns.{IsNfaOf, config_of};
 ghost use Rattle.lazydfa_c.specs.Builds.{OpensRegex};
 ghost use Rattle.lazydfa_c.specs.Limits.{admits};
+ghost use Rattle.lazydfa_c.specs.Programs.{HasPrograms, HasProgramsFor};
 ghost use Rattle.lazydfa_c.specs.Statuses.{fault_status};
-ghost use Rattle.lazydfa_c.specs.Texts.{BuildsAnyOf, BuildsTexts, IsCutError, IsPatternFor, IsRegexErrorStatus, IsRegexFor};
+ghost use Rattle.lazydfa_c.specs.Texts.{BuildsAnyOf, BuildsTexts, HasFirstFault, IsCutError, IsPatternFor};
+ghost use Rattle.lazydfa_c.specs.Texts.{IsRegexErrorStatus, IsRegexFor};
 ghost use Rattle.lazydfa_c.specs.Texts.{IsReportOfAll, LacksNfa, OpensTexts, OpensWithin, WritesMessage};
 ghost use Rattle.lazydfa_c.specs.Texts.{nest_limit_of, none_refused};
 ghost use Rattle.lazydfa_c.specs.Texts.{reading_of, refusal_at, refusal_of, size_limit_of, texts_in};
@@ -19,6 +21,7 @@ use crate::output::write_over;
 use crate::regex::{open, regex_of};
 use crate::settings::Settings;
 use crate::status::Status;
+use meta::Programs;
 use patterns::{Fault, Options, Pattern, PatternError, nfa_of};
 use regex_automata::hybrid::dfa::Config;
 use regex_automata::hybrid::regex::Regex;
@@ -52,6 +55,8 @@ pub struct TextOptions {
     pub bytes: u32,
     /// Whether the regex is built without the part that finds the starts of matches.
     pub forward_only: u32,
+    /// Whether the regex has the programs that find the groups of matches.
+    pub groups: u32,
 }
 
 /// The number of the pattern that has an error, the span of its text that the error is about, and the length of the
@@ -296,7 +301,7 @@ fn cut<'t>(
 }
 
 /// Writes as many whole characters of a message as there is room for, followed by a zero.
-fn write_message(message: &str, out: &mut [u8])
+pub(crate) fn write_message(message: &str, out: &mut [u8])
     ensures { WritesMessage message.now out.old out.new }
 {
     if out.is_empty() {
@@ -307,23 +312,54 @@ fn write_message(message: &str, out: &mut [u8])
     out[end] = 0;
 }
 
-/// Splits concatenated texts, and builds the NFA of their patterns. If it fails, it reports which text has an error.
-fn nfa_of_texts<'t>(
+/// Compiles the programs that find the groups of texts, if groups are asked for. If it fails, it reports which text has
+/// an error. As `open_nfa`, it is not inlined.
+#[inline(never)]
+fn programs_for(
+    alloc: Global,
+    texts: &[&str],
+    options: &Options,
+    groups: u32,
+    report: &mut Report,
+) -> Result<Option<Programs>, Status>
+    ensures made { IfOk result (HasProgramsFor groups (config_of options.now) (map (λ text. text.now) texts.now)) }
+    ensures kept { IfOk result (λ _. report.new ≡ report.old) }
+    ensures err { IfErr result (HasFirstFault options.now (map (λ text. text.now) texts.now) report.new) }
+{
+    if groups == 0 {
+        return Ok(None);
+    }
+    match Programs::new(alloc, texts, options) {
+        Ok(programs) => Ok(Some(programs)),
+        Err(error) => {
+            *report = Report::of(alloc, &error, texts, options);
+            Err(status_of(&error))
+        }
+    }
+}
+
+/// Splits concatenated texts, and builds the NFA of their patterns, and their programs if groups are asked for. If it
+/// fails, it reports which text has an error.
+fn compile_texts<'t>(
     alloc: Global,
     texts: &'t [u8],
     lengths: &[usize],
     options: &Options,
+    groups: u32,
     report: &mut Report,
-) -> Result<(Vec<&'t str>, NFA), Status>
+) -> Result<(Vec<&'t str>, NFA, Option<Programs>), Status>
     ensures whole { IfOk result (λ _. sum lengths.now ≡ length texts.now) }
     ensures parts { IfOk result (λ r. map (λ text. text.now) r.0.items ≡ texts_in texts.now lengths.now) }
     ensures meant { IfOk result (λ r. IsNfaOf options.now (texts_in texts.now lengths.now) r.1) }
+    ensures programs { IfOk result (λ r.
+        HasProgramsFor groups (config_of options.now) (texts_in texts.now lengths.now) r.2) }
     ensures kept { IfOk result (λ _. report.new ≡ report.old) }
     ensures err { IfErr result (LacksNfa options.now texts.now lengths.now report.old report.new) }
 {
     let parts = cut(alloc, texts, lengths, &mut report.refusal)?;
+    let programs = programs_for(alloc, parts.as_slice(), options, groups, report)?;
     match nfa_of(alloc, parts.as_slice(), options) {
-        Ok(nfa) => Ok((parts, nfa)),
+        Ok(nfa) => Ok((parts, nfa, programs)),
         Err(error) => {
             *report = Report::of(alloc, &error, parts.as_slice(), options);
             Err(status_of(&error))
@@ -364,25 +400,30 @@ fn pattern_for(
     pattern
 }
 
-/// Opens a handle on the regex of the NFA of texts, whose searches begin at needles of these texts if there are any.
+/// Opens a handle on the regex of the NFA of texts, with these programs. Its searches begin at needles of these texts if
+/// there are any.
+///
+/// It is not inlined: its frame is large, and would be on the stack while texts are parsed.
+#[inline(never)]
 fn open_nfa(
     alloc: Global,
     regex: &mut Handle,
     texts: &[&str],
     options: &Options,
     nfa: NFA,
+    programs: Option<Programs>,
     config: Config,
     forward_only: u32,
 ) -> Result<(), Status>
     requires closed { regex.now.slot.value ≡ None }
     requires meant { IsNfaOf options.now (map (λ text. text.now) texts.now) nfa }
-    ensures { OpensRegex (IsPatternFor forward_only (overwritten unset config) nfa)
+    ensures { OpensRegex (HasPrograms programs (IsPatternFor forward_only (overwritten unset config) nfa))
         (IsRegexErrorStatus forward_only (overwritten unset config) nfa) regex.old regex.new result }
 {
     match regex_for(alloc, nfa, config, forward_only) {
         Ok(built) => {
             let pattern = pattern_for(alloc, built, texts, options, forward_only);
-            open(alloc, regex, pattern)
+            open(alloc, regex, pattern, programs)
         }
         Err(status) => Err(status),
     }
@@ -405,14 +446,15 @@ fn open_texts(
         regex.old regex.new report.old report.new result }
 {
     let reading = options.options(settings);
-    let read = nfa_of_texts(alloc, texts, lengths, &reading, report)?;
-    let (parts, nfa) = read;
+    let read = compile_texts(alloc, texts, lengths, &reading, options.groups, report)?;
+    let (parts, nfa, programs) = read;
     match open_nfa(
         alloc,
         regex,
         parts.as_slice(),
         &reading,
         nfa,
+        programs,
         config,
         options.forward_only,
     ) {

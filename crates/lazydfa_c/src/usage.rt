@@ -35,10 +35,23 @@ impl Searcher {
         }
     }
 
+    /// Returns the bytes that the memory for groups takes from the allocator.
+    fn group_usage(&self) -> usize {
+        match (&self.shared.programs, &self.groups) {
+            (Some(programs), Some(memory)) => {
+                programs.footprint(&memory.simulations, &memory.captures)
+            }
+            _ => 0,
+        }
+    }
+
     /// Returns the bytes that the cache holds from the allocator in addition to its two parts: those of the object that
-    /// the handle owns and of its set of patterns. The state that a search or walk in pieces holds is not counted.
+    /// the handle owns, of its set of patterns and of the memory for groups. The state that a search or walk in pieces
+    /// holds is not counted.
     fn own_usage(&self) -> usize {
-        array(self.patterns.capacity(), 1).saturating_add(block(size_of::<Object>()))
+        array(self.patterns.capacity(), 1)
+            .saturating_add(block(size_of::<Object>()))
+            .saturating_add(self.group_usage())
     }
 
     /// Returns the bytes that the cache accounts for and holds, how often each of its two parts was cleared, and the

@@ -8,20 +8,37 @@
 
 Patterns have the syntax of Rust's regex crate. A search takes time linear in the text, and reads a text in memory once
 or, to find where matches begin, twice. Patterns that are `str` search `str`, and offsets are those of characters;
-patterns that are `bytes` search bytes, and classes such as `\\w` are those of ASCII. Groups are not reported.
+patterns that are `bytes` search bytes, and classes such as `\\w` are those of ASCII. The groups of a match are found
+when they are asked for, by reading the match once more.
 """
 import ctypes
+import itertools
+import operator
 import struct
-from typing import AnyStr, Callable, Generic, Iterator, List, NamedTuple, Optional, Sequence, Tuple, Union
+from types import MappingProxyType
+from typing import Any, AnyStr, Callable, Dict, Generic, Iterator, List, Mapping, NamedTuple, Optional, Sequence, Tuple
+from typing import Union
 
 from . import _native as native
+from ._template import TemplateError, parse
 
-__all__ = ["Lexer", "Match", "PatternError", "Regex", "RegexSet", "SearchError", "Token", "TokenError"]
+__all__ = [
+    "Lexer",
+    "Match",
+    "PatternError",
+    "Regex",
+    "RegexSet",
+    "SearchError",
+    "TemplateError",
+    "Token",
+    "TokenError",
+]
 __version__ = "0.1.0"
 
 # How many matches one call of the library writes.
 BATCH = 256
 MATCH = struct.Struct("=QQII")
+SPAN = struct.Struct("=QQ")
 # The library's parser recurses as deep as a pattern nests; threads of Python have enough stack for this.
 NEST_LIMIT = 250
 
@@ -47,25 +64,94 @@ class TokenError(ValueError):
 
 
 class Match(Generic[AnyStr]):
-    """A match of the pattern whose index is `pattern` in the text `string`."""
+    """A match of the pattern whose index is `pattern` in the text `string`, with the calls of `re.Match`.
 
-    __slots__ = ("string", "pattern", "_start", "_end")
+    A group is given by its number or its name; group 0 is the whole match. The first call that is about another group
+    finds the groups. A group that took no part in the match is None, and its span is (-1, -1).
+    """
 
-    def __init__(self, string: AnyStr, start: int, end: int, pattern: int) -> None:
-        self.string, self._start, self._end, self.pattern = string, start, end, pattern
+    # The start is also kept in bytes; the spans of the groups are there once they were asked for.
+    __slots__ = ("pattern", "_of", "_start", "_end", "_from", "_spans")
 
-    def start(self) -> int:
-        return self._start
+    def __init__(self, of: "_Text[AnyStr]", start: int, end: int, pattern: int, start_in_bytes: int) -> None:
+        self._of, self._start, self._end, self.pattern, self._from = of, start, end, pattern, start_in_bytes
 
-    def end(self) -> int:
-        return self._end
+    @property
+    def string(self) -> AnyStr:
+        return self._of.text
 
-    def span(self) -> Tuple[int, int]:
-        return self._start, self._end
+    @property
+    def re(self) -> "Regex[AnyStr]":
+        return self._of.regex
 
-    def group(self) -> AnyStr:
-        """Returns what matched."""
-        return self.string[self._start : self._end]
+    def _span(self, group: Union[int, str]) -> Tuple[int, int]:
+        """Returns the span of a group."""
+        if group == 0 and not isinstance(group, str):
+            return self._start, self._end
+        if isinstance(group, str):
+            group = self._of.regex._groups().indices[self.pattern].get(group, -1)
+        number, spans = operator.index(group), self._all_spans()
+        if not 0 <= number < len(spans):
+            raise IndexError("no such group")
+        return spans[number]
+
+    def _all_spans(self) -> List[Tuple[int, int]]:
+        """Returns the spans of the groups, from group 0 on."""
+        try:
+            return self._spans
+        except AttributeError:
+            self._spans = self._of.regex._groups().spans(self)
+            return self._spans
+
+    def _text(self, group: Union[int, str], default: Any = None) -> Any:
+        """Returns what a group captured, or the default if it took no part."""
+        start, end = self._span(group)
+        return default if start < 0 else self._of.text[start:end]
+
+    def start(self, group: Union[int, str] = 0) -> int:
+        return self._span(group)[0]
+
+    def end(self, group: Union[int, str] = 0) -> int:
+        return self._span(group)[1]
+
+    def span(self, group: Union[int, str] = 0) -> Tuple[int, int]:
+        return self._span(group)
+
+    def group(self, *groups: Union[int, str]) -> Any:
+        """Returns what matched; with one argument what that group captured; with several a tuple of these."""
+        if not groups:
+            return self._of.text[self._start : self._end]
+        every = tuple(self._text(it) for it in groups)
+        return every if len(every) > 1 else every[0]
+
+    def __getitem__(self, group: Union[int, str]) -> Optional[AnyStr]:
+        return self._text(group)
+
+    def groups(self, default: Any = None) -> Tuple[Any, ...]:
+        """Returns what each group captured, from group 1 on, and the default for those that took no part."""
+        text = self._of.text
+        return tuple([default if start < 0 else text[start:end] for start, end in self._all_spans()[1:]])
+
+    def groupdict(self, default: Any = None) -> Dict[str, Any]:
+        """Returns what each group that has a name captured, by their names."""
+        names = self._of.regex._groups().indices[self.pattern]
+        return {name: self._text(it, default) for name, it in names.items()}
+
+    def expand(self, template: AnyStr) -> AnyStr:
+        """Returns a template with its escapes replaced, as `Regex.sub` does it."""
+        return self._filled(self._of.regex._parts(template))
+
+    def _filled(self, parts: List[Union[AnyStr, int, str]]) -> AnyStr:
+        """Returns the parts of a template, with what groups captured in place of their numbers and names."""
+        if len(parts) == 1:
+            return parts[0]
+        text, spans, names = self._of.text, self._all_spans(), self._of.regex._groups().indices[self.pattern]
+        filled = list(parts)
+        for at in range(1, len(parts), 2):
+            number = names.get(parts[at], len(spans)) if isinstance(parts[at], str) else parts[at]
+            start, end = spans[number] if number < len(spans) else (0, 0)
+            filled[at] = text[max(start, 0) : max(end, 0)]
+        return text[:0].join(filled)
 
     def __repr__(self) -> str:
         return f"<lazydfa.Match pattern={self.pattern}, span={self.span()}, match={self.group()!r}>"
@@ -115,11 +201,11 @@ class _Batch:
 class _Text(Generic[AnyStr]):
     """A text as the library reads it, and its offsets as the caller counts them."""
 
-    def __init__(self, text: AnyStr, is_text: bool) -> None:
+    def __init__(self, text: AnyStr, is_text: bool, regex: "Optional[Regex[AnyStr]]" = None) -> None:
         if isinstance(text, str) != is_text:
             wanted, got = ("str", "bytes") if is_text else ("bytes", "str")
             raise TypeError(f"patterns that are {wanted} cannot search {got}")
-        self.text = text
+        self.text, self.regex = text, regex
         self.bytes = text.encode() if isinstance(text, str) else bytes(text)
         self.is_plain = not is_text or len(self.bytes) == len(text)
         self.passed = self.counted = 0
@@ -131,6 +217,10 @@ class _Text(Generic[AnyStr]):
         self.counted += len(self.bytes[self.passed : at].decode())
         self.passed = at
         return self.counted
+
+    def offset_in(self, match: Match[AnyStr], at: int) -> int:
+        """Returns the caller's offset of a place in a match, or -1 if there is no such place."""
+        return -1 if at == native.NO_OFFSET else match._start + len(self.bytes[match._from : at].decode())
 
     def whole(self) -> native.Input:
         return native.Input(end=len(self.bytes))
@@ -147,7 +237,7 @@ class _Automaton(Generic[AnyStr]):
         self.is_text = all(isinstance(it, str) for it in self.patterns)
         if not self.is_text and any(isinstance(it, str) for it in self.patterns):
             raise TypeError("patterns are all str, or all bytes")
-        self._regex, self._caches = _Owner(), []
+        self._caches = []
         options = native.Options(ctypes.sizeof(native.Options), match_kind=match_kind, nest_limit=NEST_LIMIT)
         for name, it in flags.items():
             if name not in native.FLAGS:
@@ -159,18 +249,21 @@ class _Automaton(Generic[AnyStr]):
             if limit is not None:
                 setattr(options, name, limit)
                 options.zeros |= native.ZEROS[name]
-        self._compile(options)
+        self._options, self._regex = options, self._compile(options)
 
-    def _compile(self, options: native.Options) -> None:
+    def _compile(self, options: native.Options) -> _Owner:
+        """Returns the regex of the patterns with these options."""
+        regex = _Owner()
         texts = [it.encode() if isinstance(it, str) else bytes(it) for it in self.patterns]
         every = (native.Text * len(texts))(*((it, len(it)) for it in texts))
         error = native.Error(ctypes.sizeof(native.Error))
-        status = native.regex_any_of(self._regex.handle, every, len(texts), options, error)
+        status = native.regex_any_of(regex.handle, every, len(texts), options, error)
         if status.code == native.MEMORY:
             raise MemoryError
         if status.code != native.OK:
             said = error.message.decode(errors="replace") if error.length else native.CODES.get(status.code)
             raise PatternError(said or f"the pattern is refused with code {status.code}", error.pattern)
+        return regex
 
     def _take(self) -> _Owner:
         """Returns a cache that no search uses."""
@@ -191,6 +284,61 @@ class _Automaton(Generic[AnyStr]):
             return _check(native.is_match(cache.handle, it.bytes, len(it.bytes), it.whole()))
         finally:
             self._give(cache)
+
+
+class _Spans:
+    """Room for the spans of groups, which a call of the library fills, and its other arguments."""
+
+    def __init__(self, regex: _Owner, most: int) -> None:
+        self.cache, self.found = _Owner(), native.Match()
+        _check(native.cache_new(self.cache.handle, regex.handle))
+        self.room, self.most, self.count = (native.Span * most)(), most, ctypes.c_size_t()
+        self.bytes = memoryview(self.room).cast("B")
+
+
+class _Groups(Generic[AnyStr]):
+    """What finds the groups of matches: a regex of its own, and its caches that are not in use, with room for spans."""
+
+    def __init__(self, automaton: _Automaton[AnyStr]) -> None:
+        options = native.Options.from_buffer_copy(automaton._options)
+        options.groups = options.forward_only = 1
+        self.regex, self.rooms = automaton._compile(options), []
+        every = range(len(automaton.patterns))
+        # Of each pattern the number of its groups, without group 0, and the numbers of those that have names.
+        self.counts = [self._count(it) for it in every]
+        self.indices = [MappingProxyType(self._names(it)) for it in every]
+
+    def _count(self, pattern: int) -> int:
+        count = ctypes.c_size_t()
+        _check(native.group_count(self.regex.handle, pattern, count))
+        return count.value - 1
+
+    def _names(self, pattern: int) -> Dict[str, int]:
+        found, length = {}, ctypes.c_size_t()
+        for group in range(1, self.counts[pattern] + 1):
+            if _check(native.group_name(self.regex.handle, pattern, group, None, 0, length)):
+                name = ctypes.create_string_buffer(length.value + 1)
+                _check(native.group_name(self.regex.handle, pattern, group, name, len(name), length))
+                found[name.value.decode()] = group
+        return found
+
+    def spans(self, match: Match[AnyStr]) -> List[Tuple[int, int]]:
+        """Returns the spans of the groups of a match, from group 0 on."""
+        of = match._of
+        length = match._end - match._start if of.is_plain else len(match.group().encode())
+        try:
+            it = self.rooms.pop()
+        except IndexError:
+            it = _Spans(self.regex, max(self.counts) + 1)
+        try:
+            it.found.start, it.found.end, it.found.pattern = match._from, match._from + length, match.pattern
+            _check(native.groups(it.cache.handle, of.bytes, len(of.bytes), it.found, it.room, it.most, it.count))
+            spans = list(SPAN.iter_unpack(it.bytes[: it.count.value * SPAN.size]))
+        finally:
+            self.rooms.append(it)
+        if of.is_plain:
+            return [(-1, -1) if span[0] == native.NO_OFFSET else span for span in spans]
+        return [(of.offset_in(match, start), of.offset_in(match, end)) for start, end in spans]
 
 
 class Regex(_Automaton[AnyStr]):
@@ -226,20 +374,38 @@ class Regex(_Automaton[AnyStr]):
         limits = {"cache_capacity": cache_capacity, "cache_limit": cache_limit, "size_limit": size_limit}
         every = [patterns] if isinstance(patterns, (str, bytes)) else patterns
         super().__init__(every, native.LEFTMOST_FIRST, limits, flags)
+        self._its_groups: Optional[_Groups[AnyStr]] = None
+
+    def _groups(self) -> _Groups[AnyStr]:
+        """Returns what finds groups, which the first call builds."""
+        if self._its_groups is None:
+            self._its_groups = _Groups(self)
+        return self._its_groups
+
+    @property
+    def groups(self) -> int:
+        """The number of groups of the first pattern."""
+        return self._groups().counts[0] if self.patterns else 0
+
+    @property
+    def groupindex(self) -> Mapping[str, int]:
+        """The numbers of the groups of the first pattern that have names, by these."""
+        return self._groups().indices[0] if self.patterns else MappingProxyType({})
 
     def search(self, text: AnyStr) -> Optional[Match[AnyStr]]:
         """Returns the leftmost match, or None."""
-        it, cache, found = _Text(text, self.is_text), self._take(), native.Match()
+        it, cache, found = _Text(text, self.is_text, self), self._take(), native.Match()
         try:
             if not _check(native.find(cache.handle, it.bytes, len(it.bytes), it.whole(), found)):
                 return None
         finally:
             self._give(cache)
-        return Match(text, it.offset(found.start), it.offset(found.end), found.pattern)
+        start = found.start
+        return Match(it, it.offset(start), it.offset(found.end), found.pattern, start)
 
     def finditer(self, text: AnyStr) -> Iterator[Match[AnyStr]]:
         """Yields all matches that do not overlap, from left to right."""
-        it, cache = _Text(text, self.is_text), self._take()
+        it, cache = _Text(text, self.is_text, self), self._take()
         at, batch = native.Iteration(left=it.whole()), _Batch()
         try:
             while True:
@@ -247,7 +413,7 @@ class Regex(_Automaton[AnyStr]):
                     cache.handle, it.bytes, len(it.bytes), at, batch.room, BATCH, batch.count
                 )
                 for start, end, pattern, _ in batch.spans():
-                    yield Match(text, it.offset(start), it.offset(end), pattern)
+                    yield Match(it, it.offset(start), it.offset(end), pattern, start)
                 if not _check(status):
                     return
         finally:
@@ -257,21 +423,53 @@ class Regex(_Automaton[AnyStr]):
         """Returns the text of each match."""
         return [it.group() for it in self.finditer(text)]
 
-    def split(self, text: AnyStr) -> List[AnyStr]:
-        """Returns the parts of the text between matches."""
+    def split(self, text: AnyStr, maxsplit: int = 0) -> List[Optional[AnyStr]]:
+        """Returns the parts of the text between matches, of which there are at most `maxsplit` unless it is 0. What the
+        groups of a match captured is between the parts, as with `re`."""
         parts, last = [], 0
-        for it in self.finditer(text):
+        has_groups = any(("(" if isinstance(it, str) else b"(") in it for it in self.patterns)
+        for it in self._first(text, maxsplit):
             parts.append(text[last : it.start()])
+            if has_groups:
+                parts += it.groups()
             last = it.end()
         return [*parts, text[last:]]
 
-    def sub(self, replacement: Union[AnyStr, Callable[[Match[AnyStr]], AnyStr]], text: AnyStr) -> AnyStr:
-        """Returns the text with each match replaced by a text, as it is, or by what a function returns."""
-        parts, last = [], 0
-        for it in self.finditer(text):
-            parts += [text[last : it.start()], replacement(it) if callable(replacement) else replacement]
-            last = it.end()
-        return text[:0].join([*parts, text[last:]])
+    def sub(
+        self, replacement: Union[AnyStr, Callable[[Match[AnyStr]], AnyStr]], text: AnyStr, count: int = 0
+    ) -> AnyStr:
+        """Returns the text with matches replaced, the first `count` of them, or all if that is 0: by what a function
+        returns, or by a template, in which `\\1`, `\\g<1>` and `\\g<name>` stand for groups, as with `re`."""
+        return self.subn(replacement, text, count)[0]
+
+    def subn(
+        self, replacement: Union[AnyStr, Callable[[Match[AnyStr]], AnyStr]], text: AnyStr, count: int = 0
+    ) -> Tuple[AnyStr, int]:
+        """Returns what `sub` returns, and how many matches were replaced."""
+        by = replacement if callable(replacement) else self._filler(replacement)
+        parts, last, number = [], 0, 0
+        for it in self._first(text, count):
+            parts += [text[last : it.start()], by(it)]
+            last, number = it.end(), number + 1
+        return text[:0].join([*parts, text[last:]]), number
+
+    def _first(self, text: AnyStr, count: int) -> Iterator[Match[AnyStr]]:
+        """Yields the first matches, as many as this, or all if it is 0."""
+        return self.finditer(text) if count <= 0 else itertools.islice(self.finditer(text), count)
+
+    def _parts(self, template: AnyStr) -> List[Union[AnyStr, int, str]]:
+        """Returns the parts of a template."""
+        if isinstance(template, str) != self.is_text:
+            raise TypeError("a template and the patterns are both str, or both bytes")
+        if ("\\" if self.is_text else b"\\") not in template:
+            return [template]
+        groups = self._groups()
+        return parse(template, groups.counts, groups.indices)
+
+    def _filler(self, template: AnyStr) -> Callable[[Match[AnyStr]], AnyStr]:
+        """Returns a function that fills a template with the groups of a match."""
+        parts = self._parts(template)
+        return lambda match: match._filled(parts)
 
 
 class RegexSet(_Automaton[AnyStr]):

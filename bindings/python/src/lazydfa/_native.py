@@ -8,6 +8,8 @@ OK, NONE = 0, 1
 MEMORY, TOO_LARGE, CAPACITY = 6, 14, 25
 NO_TOKEN, SYNTAX, NOT_TEXT, NOT_COMPILED = 34, 40, 41, 42
 LEFTMOST_FIRST, ALL = 0, 1
+# Both ends of a group that took no part in a match.
+NO_OFFSET = 2 ** (8 * ctypes.sizeof(c_size_t)) - 1
 
 # Words for the codes of searches and of limits.
 CODES = {
@@ -30,6 +32,7 @@ Input = _struct(
     "Input", start=c_size_t, end=c_size_t, anchored=c_uint32, pattern=c_uint32, earliest=c_uint32, reserved=c_uint32
 )
 Match = _struct("Match", start=c_size_t, end=c_size_t, pattern=c_uint32, reserved=c_uint32)
+Span = _struct("Span", start=c_size_t, end=c_size_t)
 Iteration = _struct("Iteration", left=Input, last=c_size_t, has_last=c_uint32, ended=c_uint32)
 Text = _struct("Text", text=c_char_p, length=c_size_t)
 Options = _struct(
@@ -63,7 +66,7 @@ Options = _struct(
     octal=c_uint32,
     bytes=c_uint32,
     forward_only=c_uint32,
-    reserved=c_uint32,
+    groups=c_uint32,
 )
 # The members that are flags of patterns.
 FLAGS = (
@@ -98,6 +101,8 @@ def _load() -> ctypes.CDLL:
 
 
 _library = _load()
+if not _library.lazydfa_is_supported():
+    raise ImportError("the processor lacks instructions that lazydfa uses: it needs the level x86-64-v2")
 
 
 def _call(name: str, *types):
@@ -110,6 +115,9 @@ _handle, _text = POINTER(Handle), (c_char_p, c_size_t)
 close = _call("close", _handle)
 cache_new = _call("cache_new", _handle, _handle)
 regex_any_of = _call("regex_any_of", _handle, POINTER(Text), c_size_t, POINTER(Options), POINTER(Error))
+group_count = _call("group_count", _handle, c_uint32, POINTER(c_size_t))
+group_name = _call("group_name", _handle, c_uint32, c_size_t, c_char_p, c_size_t, POINTER(c_size_t))
+groups = _call("groups", _handle, *_text, POINTER(Match), POINTER(Span), c_size_t, POINTER(c_size_t))
 find = _call("find", _handle, *_text, POINTER(Input), POINTER(Match))
 is_match = _call("is_match", _handle, *_text, POINTER(Input))
 next_all = _call("next_all", _handle, *_text, POINTER(Iteration), POINTER(Match), c_size_t, POINTER(c_size_t))

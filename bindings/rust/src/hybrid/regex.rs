@@ -9,6 +9,9 @@ use std::iter::FusedIterator;
 use std::sync::Arc;
 
 pub use crate::engine::Cache;
+pub use groups::{CaptureMatches, Split, SplitN, TryCaptureMatches};
+
+mod groups;
 
 /// A builder of regexes. It holds the settings of their DFAs, and how the texts of patterns are parsed.
 ///

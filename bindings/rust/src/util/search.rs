@@ -292,6 +292,12 @@ impl Match {
     pub fn is_empty(&self) -> bool {
         self.span.is_empty()
     }
+
+    /// Returns the match as the library takes it.
+    pub(crate) fn raw(&self) -> raw::Match {
+        let Span { start, end } = self.span;
+        raw::Match { start, end, pattern: self.pattern.0, reserved: 0 }
+    }
 }
 
 impl From<raw::Match> for Match {

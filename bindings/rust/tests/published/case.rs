@@ -48,6 +48,8 @@ pub enum Wanted {
     IsMatch(bool),
     /// The first match.
     First(Option<Range<usize>>),
+    /// The first match, and its first groups.
+    Groups(Vec<Option<Range<usize>>>),
     /// The end of the match that ends first.
     Earliest(Option<usize>),
     /// All matches that do not overlap.
@@ -139,6 +141,10 @@ fn searched(regex: &Regex, haystack: &[u8], kind: &Wanted) -> Result<Wanted, Mat
         Wanted::Earliest(_) => {
             let half = regex.forward().try_search_fwd(&mut cache, &input.earliest(true))?;
             Wanted::Earliest(half.map(|half| half.offset()))
+        }
+        Wanted::Groups(wanted) => {
+            let caps = regex.try_captures(&mut cache, input)?.expect("a match");
+            Wanted::Groups(caps.iter().take(wanted.len()).map(|group| Some(group?.range())).collect())
         }
         Wanted::All(_) => {
             let matches = regex.try_find_iter(&mut cache, input);

@@ -87,7 +87,11 @@ fn wanted(table: &str, values: &[Value]) -> Option<Wanted> {
     Some(match table {
         "noparse" => Wanted::NoPattern,
         "ismatch" => Wanted::IsMatch(rest.first()? == &Value::Word("true".into())),
-        // The spans after the first one are those of groups.
+        // The spans after the first one are those of groups, as many as the row has.
+        "mat" if rest.len() > 1 => {
+            let span = |value| optional(value)?.map(pair).transpose_option();
+            Wanted::Groups(rest.iter().map(span).collect::<Option<_>>()?)
+        }
         "mat" => Wanted::First(optional(rest.first()?)?.map(pair).transpose_option()?),
         "matiter" => Wanted::All(rest.iter().map(pair).collect::<Option<_>>()?),
         "shortmat" => Wanted::Earliest(optional(rest.first()?)?.map(number).transpose_option()?),
@@ -215,7 +219,7 @@ fn tables() {
                 mat!(\n    two,\n    \"\\\\d\",\n    \"baa\",\n    None\n);\n\
                 matiter!(three, r#\"a\"#, \"baa\", (1, 2), (2, 3));\n";
     let wanted = [
-        row("one", "a+", Wanted::First(Some(1..3))),
+        row("one", "a+", Wanted::Groups(vec![Some(1..3), None])),
         row("two", r"\d", Wanted::First(None)),
         row("three", "a", Wanted::All(vec![1..2, 2..3])),
     ];

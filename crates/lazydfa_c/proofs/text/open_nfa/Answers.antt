@@ -13,10 +13,14 @@ pattern_for-pattern-requires c =
 
 pub returns-in-Ok : goal.returns-in-Ok
 returns-in-Ok c =
-    opens _ _ c.pattern_for-pattern.result c.args.regex.now c.open.new.handle c.open.result (
-      subst (IsRegexFor c.args.forward_only (overwritten unset c.args.config) c.args.nfa)
-          (sym c.pattern_for-pattern.ensures.regex) c.in-Ok.ensures.built,
-      c.pattern_for-pattern.ensures.waits,
+    opens _ _ (record { pattern = c.pattern_for-pattern.result; programs = c.args.programs }) c.args.regex.now
+    c.open.new.handle c.open.result (
+      (
+        subst (IsRegexFor c.args.forward_only (overwritten unset c.args.config) c.args.nfa)
+            (sym c.pattern_for-pattern.ensures.regex) c.in-Ok.ensures.built,
+        c.pattern_for-pattern.ensures.waits,
+      ),
+      refl,
     )
     c.open.ensures.opened c.open.ensures.same c.open.ensures.err
 

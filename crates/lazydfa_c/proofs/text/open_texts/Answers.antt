@@ -1,6 +1,8 @@
 use Rattle.std.proofs.Common.{◌∙◌, ap, map, subst, sym}
 use Rattle.automata_config.specs.Options.{overwritten, unset}
-use Rattle.patterns.specs.Patterns.{IsNfaOf}
+use Rattle.patterns.specs.Patterns.{IsNfaOf, config_of}
+use Rattle.patterns.specs.declared.compile.Options.{Options}
+use Rattle.lazydfa_c.specs.Programs.{HasProgramsFor}
 use Rattle.lazydfa_c.specs.Texts.{LacksNfa, OpensTexts, texts_in}
 use Rattle.lazydfa_c.proofs.Cutting.{error_at}
 use Rattle.lazydfa_c.proofs.Texts.{opens_texts, regex_lacks, texts_fail}
@@ -11,10 +13,12 @@ returns-in-Ok c =
     let bytes = c.args.texts.now in
     let lengths = c.args.lengths.now in
     opens_texts (overwritten unset c.args.config) c.args.options.now c.args.settings.now bytes lengths
-    c.in_ok-read.read.1
-    c.open_nfa.new.regex c.args.report.now c.nfa_of_texts.new.report c.in_ok-read.ensures.whole
+    c.in_ok-read.read.1 c.in_ok-read.read.2
+    c.open_nfa.new.regex c.args.report.now c.compile_texts.new.report c.in_ok-read.ensures.whole
     (subst (λ reading. IsNfaOf reading (texts_in bytes lengths) c.in_ok-read.read.1) c.options-reading.ensures
     c.in_ok-read.ensures.meant)
+    (subst (λ (reading : Options). HasProgramsFor c.args.options.now.groups (config_of reading) (texts_in bytes lengths)
+    c.in_ok-read.read.2) c.options-reading.ensures c.in_ok-read.ensures.programs)
     c.in_ok-read.ensures.kept c.in-Ok.ensures
 
 pub returns : goal.returns
@@ -36,7 +40,7 @@ returns-in_err-read c =
     let bytes = c.args.texts.now in
     let lengths = c.args.lengths.now in
     let e = c.in_err-read.field-0.0 in
-    let to = c.nfa_of_texts.new.report in
+    let to = c.compile_texts.new.report in
     error_at c.from_residual.result e
     (OpensTexts o options settings bytes lengths c.args.regex.now c.args.regex.now c.args.report.now to)
     c.from_residual.ensures.1
