@@ -18,10 +18,12 @@ use Rattle.lgrep.specs.Lines.{IsSearcherFor, bytewise, count_after, found_line, 
 use Rattle.lgrep.specs.Greps.{IsGrepFor, IsViewFor, KeepsView}
 use Rattle.lgrep.specs.Shown.{found_shown, line_shown, lines_shown, part_shown, parts_shown, shown_after}
 use Rattle.lgrep.specs.Shown.{which_shown}
+use Rattle.lgrep.specs.declared.position.Position.{Position}
 use Rattle.lgrep.specs.declared.search.Grep.{Grep}
 use Rattle.lgrep.specs.declared.lines.Line.{Line}
 use Rattle.lgrep.specs.declared.lines.LineSearcher.{LineSearcher}
 use Rattle.lgrep.specs.declared.sets.SetSearcher.{SetSearcher}
+use Rattle.lgrep.specs.declared.show.Frame.{Frame}
 use Rattle.lgrep.specs.declared.show.How.{How}
 use Rattle.lgrep.specs.declared.show.How.TheVariants as how
 use Rattle.lgrep.specs.declared.show.Show.{Show}
@@ -34,13 +36,13 @@ use Rattle.lgrep.proofs.Numbers.{counted_push}
 pub any_bytes : (case_insensitive : Bool) (hay : List ℕ) → IsFor (bytewise case_insensitive) hay
 any_bytes case_insensitive hay = (λ e. absurd (cc), λ e. absurd (cc))
 
-module _ (regex : Regex) (prefix line old : List ℕ) where
+module _ (regex : Regex) (prefix : List ℕ) (frame : Frame) (line old : List ℕ) where
   -- what is printed so far, with what the remaining matches will add, is what all matches add
   abbrev pub Prints : (was : List ℕ) → (last : Option ℕ) → Type 0
   Prints was last =
       (case_insensitive : Bool) (res : List Re) → IsRegexOf (bytewise case_insensitive) res regex
-      → was ++ parts_shown prefix line (left_any false res line last) ≡ old
-      ++ parts_shown prefix line (left_any false res line None)
+      → was ++ parts_shown prefix frame line (left_any false res line last) ≡ old
+      ++ parts_shown prefix frame line (left_any false res line None)
 
   module _ (own : Regex) (hay : List ℕ) (same : own ≡ regex) (same_line : hay ≡ line) (was : List ℕ) (last : Option ℕ)
       (so : Prints was last) where
@@ -49,27 +51,27 @@ module _ (regex : Regex) (prefix line old : List ℕ) where
 
     pub match_turn :
         (is : List ℕ) (m : Match) (last' : Option ℕ) → IsNextMeant own hay last (Some m) → last' ≡ Some m.end →
-        is ≡ was ++ part_shown prefix (slice_range line m.start m.end) → Prints is last'
+        is ≡ was ++ part_shown prefix frame m.start (slice_range line m.start m.end) → Prints is last'
     match_turn is m last' h end more = λ case_insensitive res of.
-        ap (λ v. is ++ parts_shown prefix line (left_any false res line v)) end
-        ∙ ap (λ v. v ++ parts_shown prefix line (left_any false res line (Some m.end))) more
-        ∙ append_assoc was (part_shown prefix (slice_range line m.start m.end))
-        (parts_shown prefix line (left_any false res line (Some m.end)))
-        ∙ ap (λ ms. was ++ parts_shown prefix line ms)
+        ap (λ v. is ++ parts_shown prefix frame line (left_any false res line v)) end
+        ∙ ap (λ v. v ++ parts_shown prefix frame line (left_any false res line (Some m.end))) more
+        ∙ append_assoc was (part_shown prefix frame m.start (slice_range line m.start m.end))
+        (parts_shown prefix frame line (left_any false res line (Some m.end)))
+        ∙ ap (λ ms. was ++ parts_shown prefix frame line ms)
         (sym (next (Some m) h (bytewise case_insensitive) res of (any_bytes case_insensitive line)))
         ∙ so case_insensitive res of
 
     pub match_end : IsNextMeant own hay last None → (case_insensitive : Bool) (res : List Re) →
         IsRegexOf (bytewise case_insensitive) res regex
-        → was ≡ old ++ parts_shown prefix line (left_any false res line None)
+        → was ≡ old ++ parts_shown prefix frame line (left_any false res line None)
     match_end h case_insensitive res of =
-        sym (ap (λ ms. was ++ parts_shown prefix line ms)
+        sym (ap (λ ms. was ++ parts_shown prefix frame line ms)
         (next None h (bytewise case_insensitive) res of (any_bytes case_insensitive line))
         ∙ append-nil was)
         ∙ so case_insensitive res of
 
 -- one more line
-lines_push : (show : Show) (res : List Re) (found : List (ℕ × List ℕ)) (line : ℕ × List ℕ) →
+lines_push : (show : Show) (res : List Re) (found : List (Position × List ℕ)) (line : Position × List ℕ) →
     lines_shown show res (found ++ line ∷ []) ≡ lines_shown show res found ++ found_shown show res line
 lines_push show res [] line = append-nil (found_shown show res line)
 lines_push show res (x ∷ found) line =
@@ -180,11 +182,11 @@ pub on_ok : {U E A B : Type 0} (r : Result U E) → (A → B) → OnOk r A → O
 on_ok (Ok u) f h = f h
 on_ok (Err e) f h = tt
 
-module _ (case_insensitive : Bool) (res : List Re) (prefix line was is : List ℕ) where
+module _ (case_insensitive : Bool) (res : List Re) (prefix : List ℕ) (frame : Frame) (line was is : List ℕ) where
   -- a line that is shown whole
   pub line_as_whole :
-      (asked : How) → IsViewFor case_insensitive asked res view.Whole → is ≡ was ++ shown_after prefix line →
-      is ≡ was ++ line_shown asked res prefix line
+      (asked : How) → IsViewFor case_insensitive asked res view.Whole → is ≡ was ++ shown_after prefix frame 0 line →
+      is ≡ was ++ line_shown asked res prefix frame line
   line_as_whole how.Whole for said = said
   line_as_whole how.Matches for said = absurd for
   line_as_whole how.Which for said = absurd for
@@ -192,8 +194,8 @@ module _ (case_insensitive : Bool) (res : List Re) (prefix line was is : List �
   -- the matches of a line
   pub line_as_matches : (asked : How) (own : SpanSearcher) → IsViewFor case_insensitive asked res (view.Matches own) →
       (IsRegexOf (bytewise case_insensitive) res own.pattern.regex
-      → is ≡ was ++ parts_shown prefix line (left_any false res line None)) →
-      is ≡ was ++ line_shown asked res prefix line
+      → is ≡ was ++ parts_shown prefix frame line (left_any false res line None)) →
+      is ≡ was ++ line_shown asked res prefix frame line
   line_as_matches how.Whole own for said = absurd for
   line_as_matches how.Matches own for said = said for
   line_as_matches how.Which own for said = absurd for
@@ -201,8 +203,8 @@ module _ (case_insensitive : Bool) (res : List Re) (prefix line was is : List �
   -- a line after the numbers of the patterns that match it
   pub line_as_which : (asked : How) (own : SetSearcher) → IsViewFor case_insensitive asked res (view.Which own) →
       (IsDfaOf (bytewise case_insensitive) res own.set.dfa
-      → is ≡ was ++ which_shown prefix line (map (is_found false line) res)) →
-      is ≡ was ++ line_shown asked res prefix line
+      → is ≡ was ++ which_shown prefix frame line (map (is_found false line) res)) →
+      is ≡ was ++ line_shown asked res prefix frame line
   line_as_which how.Whole own for said = absurd for
   line_as_which how.Matches own for said = absurd for
   line_as_which how.Which own for said = said for

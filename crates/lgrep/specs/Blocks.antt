@@ -5,15 +5,15 @@ use Rattle.std.specs.Prelude.{ℕ, ◌==◌, ◌≡◌, ◌<◌, ◌++◌, ◌�
 abbrev pub line_ends : (byte : ℕ) → ℕ
 line_ends byte = cond (byte == 0) 10 byte
 
--- no byte of a text is a line feed
-abbrev pub HasNoLineFeed : List ℕ → Type 0
-HasNoLineFeed text = (k : ℕ) → k < length text → slice_index text k ≡ 10 → ⊥
+-- no byte of a text ends a line
+abbrev pub HasNoEnd : (end : ℕ) → List ℕ → Type 0
+HasNoEnd end text = (k : ℕ) → k < length text → slice_index text k ≡ end → ⊥
 
--- the complete lines of a text are taken, without the last line feed, and the rest is kept; none are taken if there is
--- no line feed
-abbrev pub TakesLines : (text : List ℕ) → (taken : Option (List ℕ)) → (kept : List ℕ) → Type 0
-TakesLines text None kept = (kept ≡ text) × HasNoLineFeed text
-TakesLines text (Some taken) kept = (text ≡ taken ++ 10 ∷ kept) × HasNoLineFeed kept
+-- the complete lines of a text are taken, without the byte that ends the last one, and the rest is kept; none are
+-- taken if no byte ends a line
+abbrev pub TakesLines : (end : ℕ) (text : List ℕ) → (taken : Option (List ℕ)) → (kept : List ℕ) → Type 0
+TakesLines end text None kept = (kept ≡ text) × HasNoEnd end text
+TakesLines end text (Some taken) kept = (text ≡ taken ++ end ∷ kept) × HasNoEnd end kept
 
 -- all of a text is taken; none if it is empty
 abbrev pub TakesRest : (text : List ℕ) → (taken : Option (List ℕ)) → Type 0

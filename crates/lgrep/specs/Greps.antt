@@ -1,15 +1,18 @@
 -- What a grep searches for, and what a search of a text adds to what is printed.
-use Rattle.std.specs.Prelude.{ℕ, ◌≡◌, Bool, List, ◌++◌}
+use Rattle.std.specs.Prelude.{ℕ, ◌≡◌, ◌&&◌, Bool, is_some, not, List, [], ◌++◌}
 use Rattle.regex_hir.specs.Re.{Re}
 use Rattle.meaning.specs.Patterns.{HasPart}
 use Rattle.patterns.specs.Patterns.{IsRegexOf}
 use Rattle.patterns.specs.Sets.{IsDfaOf}
-use Rattle.lgrep.specs.Lines.{AreMatching, IsSearcherFor, IsWanted, bytewise, count_after, first_lines, lines}
-use Rattle.lgrep.specs.Lines.{numbered}
-use Rattle.lgrep.specs.Shown.{lines_shown}
+use Rattle.lgrep.specs.Contexts.{shown_in}
+use Rattle.lgrep.specs.Lines.{AreMarked, AreMatching, IsSearcherFor, IsWanted, bytewise, count_after, first_lines}
+use Rattle.lgrep.specs.Lines.{lines, positioned, taken_lines}
+use Rattle.lgrep.specs.Shown.{is_silent, lines_shown}
+use Rattle.lgrep.specs.declared.position.Position.{Position}
 use Rattle.lgrep.specs.declared.search.Grep.{Grep}
 use Rattle.lgrep.specs.declared.show.How.{How}
 use Rattle.lgrep.specs.declared.show.How.TheVariants as how
+use Rattle.lgrep.specs.declared.show.Show.{Show}
 use Rattle.lgrep.specs.declared.view.View.{View}
 use Rattle.lgrep.specs.declared.view.View.TheVariants as view
 
@@ -33,19 +36,42 @@ IsGrepFor case_insensitive res grep =
     IsSearcherFor case_insensitive res grep.lines.dfa
     × IsViewFor case_insensitive grep.show.flags.how res grep.view
 
--- what searching the lines of a text adds
+-- whether lines around those that are taken are shown
+abbrev pub shows_around : Show → Bool
+shows_around show = is_some show.flags.around && not (is_silent show)
+
+-- what searching the lines of a text adds, if only lines that are taken are shown
 pub record ShowsLines (res : List Re) (text : List ℕ) (old new : Grep) : Type 0 where
-  -- the lines in which some part is a match of some pattern, or with `-v` the others, with their numbers
-  pub wanted : List (ℕ × List ℕ)
+  -- the lines in which some part is a match of some pattern, or with `-v` the others, with their positions
+  pub wanted : List (Position × List ℕ)
   -- they are all such lines, in order
   pub matching :
       AreMatching (λ line. IsWanted old.show.flags.invert (HasPart res line.1))
-      (numbered old.lines.searched (lines text)) wanted
+      (positioned old.lines.next (lines old.show.flags.end text)) wanted
   -- the lines that are found
-  pub found : List (ℕ × List ℕ)
+  pub found : List (Position × List ℕ)
   -- they are all of these or, with `-m`, the first ones, up to that many of a file
   pub first : found ≡ first_lines old.show.flags.max old.count wanted
   -- they are shown
   pub shown : new.shown.items ≡ old.shown.items ++ lines_shown old.show res found
   -- they are counted
   pub count : new.count ≡ count_after old.count found
+
+-- what searching the lines of a text adds, if lines around those that are taken are shown
+pub record ShowsAround (res : List Re) (text : List ℕ) (old new : Grep) : Type 0 where
+  -- the lines with their positions, each with whether it is taken
+  pub marked : List ((Position × List ℕ) × Bool)
+  -- a line is taken if some part of it is a match of some pattern, or with `-v` if none is; with `-m` only the first
+  -- of these lines are, up to that many of a file
+  pub marks :
+      AreMarked (λ line. IsWanted old.show.flags.invert (HasPart res line.1)) old.show.flags.max old.count
+      (positioned old.lines.next (lines old.show.flags.end text)) marked
+  -- whatever lines follow, what is shown with them is what is shown of all these lines
+  pub shown :
+      (rest : List ((Position × List ℕ) × Bool))
+      → new.shown.items ++ shown_in old.show res new.context rest
+      ≡ old.shown.items ++ shown_in old.show res old.context (marked ++ rest)
+  -- if none follow, nothing more is shown
+  pub ended : shown_in old.show res new.context [] ≡ []
+  -- those that are taken are counted
+  pub count : new.count ≡ count_after old.count (taken_lines marked)

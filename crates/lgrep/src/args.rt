@@ -6,7 +6,7 @@ use crate::flags::{
 };
 use crate::globs::Glob;
 use crate::paths::is_terminal;
-use crate::show::{Flags, How};
+use crate::show::{Around, Flags, How};
 use crate::texts::Wording;
 use anyhow::{Result, bail};
 use std::alloc::Global;
@@ -34,6 +34,10 @@ pub struct Args {
     /// The globs of `--exclude-dir`.
     pub directories: Vec<Glob>,
     pub files: Vec<String>,
+    /// How many lines are shown after and before each line that is taken, and on each side without its own number.
+    after: Option<u64>,
+    before: Option<u64>,
+    context: Option<u64>,
     /// Whether patterns were given by `-e` or `-f`.
     has_patterns: bool,
     /// The kind of value that the next argument is, if it is the value of a flag.
@@ -58,6 +62,9 @@ impl Drop for Args {
             globs: _globs,
             directories: _directories,
             files: _files,
+            after: _after,
+            before: _before,
+            context: _context,
             has_patterns: _has_patterns,
             awaited: _awaited,
             has_ended: _has_ended,
@@ -79,6 +86,10 @@ fn no_flags() -> Flags {
         numbers: false,
         named: false,
         null: false,
+        offsets: false,
+        tab: false,
+        around: None,
+        end: b'\n',
     }
 }
 
@@ -99,6 +110,7 @@ fn as_patterns() -> Wording {
         fixed: false,
         lines: false,
         words: false,
+        dots: false,
         case_insensitive: false,
     }
 }
@@ -142,6 +154,9 @@ impl Args {
             globs: Vec::new(alloc),
             directories: Vec::new(alloc),
             files: Vec::new(alloc),
+            after: None,
+            before: None,
+            context: None,
             has_patterns: false,
             awaited: None,
             has_ended: false,
@@ -193,8 +208,23 @@ impl Args {
             Value::Maximum => self.set_max(text),
             Value::BinaryFiles => self.set_binary_files(text),
             Value::Cache => self.set_capacity(text),
-            _ => self.set_color(text),
+            Value::Color => self.set_color(text),
+            _ => self.set_around(value, text),
         }
+    }
+
+    /// Sets how many lines are shown after or before a line that is taken, or on both sides; fails if the text is not a
+    /// number.
+    fn set_around(&mut self, value: Value, text: &str) -> Result<()> {
+        let Ok(lines) = text.parse::<u64>() else {
+            bail!("-A, -B and -C take a number; see lgrep --help");
+        };
+        match value {
+            Value::After => self.after = Some(lines),
+            Value::Before => self.before = Some(lines),
+            _ => self.context = Some(lines),
+        }
+        Ok(())
     }
 
     /// Sets how many lines of a file are taken at most; fails if the text is not a number.
@@ -273,7 +303,9 @@ impl Args {
             Switch::Names => self.set_names(false),
             Switch::Null => self.flags.null = true,
             Switch::Numbers => self.flags.numbers = true,
+            Switch::Offsets => self.flags.offsets = true,
             Switch::Stats => self.stats = true,
+            Switch::Tab => self.flags.tab = true,
             Switch::Unnamed => self.names = Some(false),
             Switch::Version => self.request = Some(Request::Version),
             Switch::Which => self.set_how(How::Which)?,
@@ -296,6 +328,10 @@ impl Args {
             Switch::Syntax => self.wording.fixed = false,
             Switch::Text => self.reading.binary_files = BinaryFiles::Text,
             Switch::Words => self.wording.words = true,
+            Switch::ZeroEnds => {
+                self.flags.end = 0;
+                self.wording.dots = true;
+            }
             _ => {}
         }
     }
@@ -327,19 +363,38 @@ impl Args {
         }
     }
 
+    /// Takes a digit of an argument such as `-12`, which is short for `-C 12`. Returns the number so far.
+    fn take_digit(&mut self, number: Option<u64>, digit: u32) -> Option<u64> {
+        let tens = number.unwrap_or(0).saturating_mul(10);
+        self.context = Some(tens.saturating_add(u64::from(digit)));
+        self.context
+    }
+
     /// Takes the letters of an argument such as `-cn`. What follows a letter that takes a value is its value.
     fn take_letters(&mut self, rt: &HostRuntime, letters: &str) -> Result<()> {
+        let mut number = None;
         for (at, letter) in letters.char_indices() {
             if let Some(value) = value_of_letter(letter) {
                 let rest = letters.get(at.saturating_add(1)..).unwrap_or("");
                 return self.begin_value(rt, value, rest);
             }
-            match switch_of_letter(letter) {
-                Some(switch) => self.set(switch)?,
-                None => bail!("no flag -{letter}; see lgrep --help"),
-            }
+            number = match letter.to_digit(10) {
+                Some(digit) => self.take_digit(number, digit),
+                None => {
+                    self.take_switch(letter)?;
+                    None
+                }
+            };
         }
         Ok(())
+    }
+
+    /// Takes a letter that has no value; fails if there is no such flag.
+    fn take_switch(&mut self, letter: char) -> Result<()> {
+        match switch_of_letter(letter) {
+            Some(switch) => self.set(switch),
+            None => bail!("no flag -{letter}; see lgrep --help"),
+        }
     }
 
     /// Takes an argument that is neither a flag nor a value: a file or, if it is the first, possibly the pattern.
@@ -390,10 +445,23 @@ impl Args {
                 self.take_other(rt.alloc(), "-")?;
             }
         }
+        self.flags.around = self.around();
         self.flags.named = self.names.unwrap_or(self.files.len() > 1);
         self.reading.unnamed = self.names == Some(false);
         self.flags.quiet = self.reading.quiet;
         Ok(())
+    }
+
+    /// Returns how many lines around those that are taken are shown, if this is asked for.
+    fn around(&self) -> Option<Around> {
+        if self.after.is_none() && self.before.is_none() && self.context.is_none() {
+            return None;
+        }
+        let both = self.context.unwrap_or(0);
+        Some(Around {
+            before: self.before.unwrap_or(both),
+            after: self.after.unwrap_or(both),
+        })
     }
 
     /// Whether no file has to be read, because no line is taken and no file without such a line is named.

@@ -26,6 +26,8 @@ pub struct Blocks {
     block: Vec<u8>,
     text: Vec<u8>,
     binary_files: BinaryFiles,
+    /// The byte that ends each line.
+    end: u8,
     /// Whether a NUL was read that has an effect.
     binary: bool,
 }
@@ -37,6 +39,7 @@ impl Drop for Blocks {
             block: _block,
             text: _text,
             binary_files: _binary_files,
+            end: _end,
             binary: _binary,
         } = self;
     }
@@ -59,13 +62,14 @@ fn end_lines(bytes: &mut [u8])
 }
 
 impl Blocks {
-    /// Allocates a block, before anything is read.
-    pub fn new(alloc: Global, binary_files: BinaryFiles) -> Result<Blocks> {
+    /// Allocates a block, before anything is read. The byte ends each line.
+    pub fn new(alloc: Global, binary_files: BinaryFiles, end: u8) -> Result<Blocks> {
         let block = vec![in alloc; 0; BLOCK]?;
         Ok(Blocks {
             block,
             text: Vec::new(alloc),
             binary_files,
+            end,
             binary: false,
         })
     }
@@ -80,13 +84,19 @@ impl Blocks {
         self.binary && matches!(self.binary_files, BinaryFiles::Unmatched)
     }
 
+    /// Whether a NUL makes the file binary: not if it ends each line.
+    fn splits_binary(&self) -> bool {
+        self.end != 0 && !matches!(self.binary_files, BinaryFiles::Text)
+    }
+
     /// Reads a block, and returns how many bytes it has, which is 0 at the end of the input. In a binary file a NUL
     /// ends a line, as a line feed does.
     pub fn read<R: Read>(&mut self, input: &mut R) -> Result<usize> {
         let read = input.read(self.block.as_mut_slice())?;
         let read = read.min(self.block.len());
+        let is_split = self.splits_binary();
         let bytes = &mut self.block[..read];
-        if !matches!(self.binary_files, BinaryFiles::Text) && memchr(0, bytes).is_some() {
+        if is_split && memchr(0, bytes).is_some() {
             self.binary = true;
             end_lines(bytes);
         }
@@ -96,12 +106,12 @@ impl Blocks {
         Ok(read)
     }
 
-    /// Takes all complete lines, without the last line feed; returns `None` if no line is complete.
+    /// Takes all complete lines, without the byte that ends the last one; returns `None` if no line is complete.
     pub fn take_ended(&mut self, alloc: Global) -> Result<Option<Vec<u8>>>
-        ensures { IfOk result (λ ended. TakesLines self.old.text.items (option_map (λ lines. lines.items) ended)
-            self.new.text.items) }
+        ensures { IfOk result (λ ended. TakesLines self.old.end self.old.text.items
+            (option_map (λ lines. lines.items) ended) self.new.text.items) }
     {
-        match memrchr(b'\n', self.text.as_slice()) {
+        match memrchr(self.end, self.text.as_slice()) {
             Some(end) => {
                 let rest = Vec::from_slice(alloc, &self.text[end + 1..])?;
                 let mut ended = mem::replace(&mut self.text, rest);
@@ -112,7 +122,7 @@ impl Blocks {
         }
     }
 
-    /// Takes the remaining bytes, which are a last line without a line feed; returns `None` if there are none.
+    /// Takes the remaining bytes, which are a last line that has no end; returns `None` if there are none.
     pub fn take_last(&mut self, alloc: Global) -> Option<Vec<u8>>
         ensures taken { TakesRest self.old.text.items (option_map (λ rest. rest.items) result) }
         ensures left { self.new.text.items ≡ [] }

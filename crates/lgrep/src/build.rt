@@ -9,13 +9,15 @@ ghost use Rattle.regex_automata.specs.Regexes.Builds.{BuildsOne};
 ghost use Rattle.patterns.specs.Patterns.{HasNoLookCycle, IsJoinedNfa, IsNfaOf, IsRegexOf, settings_with};
 ghost use Rattle.patterns.specs.Sets.{IsDfaOf};
 ghost use Rattle.lgrep.specs.Lines.{bytewise};
+ghost use Rattle.lgrep.specs.Contexts.{IsFirstContext};
 ghost use Rattle.lgrep.specs.Built.{IsGrepBuilt, IsViewBuilt, grep_settings};
 ghost use Rattle.lgrep.specs.Greps.{IsGrepFor, IsViewFor};
 
+use crate::around::Context;
 use crate::lines::LineSearcher;
 use crate::search::Grep;
 use crate::sets::SetSearcher;
-use crate::show::{How, Show};
+use crate::show::{Around, How, Show};
 use crate::spans::SpanSearcher;
 use crate::view::View;
 use anyhow::{Result, bail};
@@ -61,6 +63,18 @@ pub fn patterns_nfa(
     nfa_of(alloc, patterns, &how)
 }
 
+/// Tests whether the patterns are valid; they may have word boundaries of Unicode.
+pub fn test_patterns(
+    alloc: Global,
+    patterns: &[&str],
+    case_insensitive: bool,
+) -> Result<(), PatternError> {
+    let mut how = bytewise(case_insensitive);
+    how.ascii = true;
+    nfa_of(alloc, patterns, &how)?;
+    Ok(())
+}
+
 /// Returns the settings of a DFA: which matches it reports, and the capacity of its cache, in bytes. A capacity that is
 /// too small is raised to the minimum.
 fn settings(match_kind: MatchKind, capacity: usize) -> Config
@@ -94,7 +108,7 @@ fn dfa_of(nfa: NFA, match_kind: MatchKind, capacity: usize) -> Result<DFA>
 fn line_searcher(nfa: NFA, capacity: usize) -> Result<LineSearcher>
     requires { HasNoLookCycle nfa }
     ensures built { IfOk result (λ s. Builds (grep_settings LeftmostFirst capacity) nfa s.dfa) }
-    ensures searched { IfOk result (λ s. s.searched ≡ 0) }
+    ensures next { IfOk result (λ s. s.next ≡ record { lines = 0; bytes = 0 }) }
 {
     let dfa = dfa_of(nfa, MatchKind::LeftmostFirst, capacity)?;
     LineSearcher::new(dfa)
@@ -156,6 +170,17 @@ fn view_of(nfa: &NFA, how: How, case_insensitive: bool, capacity: usize) -> Resu
     }
 }
 
+/// Returns the context of the first line, if lines around those that are taken are shown.
+fn context_of(alloc: Global, around: Option<Around>) -> Context
+    ensures { IsFirstContext around result }
+{
+    let none = Around {
+        before: 0,
+        after: 0,
+    };
+    Context::new(alloc, around.unwrap_or(none))
+}
+
 /// Builds a grep for the patterns of an NFA, which has searched nothing yet. Each cache has this capacity, in bytes, or
 /// the minimum if that is larger; no byte makes a search quit, and no search gives up.
 pub fn grep_of(
@@ -170,10 +195,12 @@ pub fn grep_of(
         → IsGrepFor case_insensitive res grep) }
     ensures built { IfOk result (IsGrepBuilt case_insensitive capacity nfa) }
     ensures show { IfOk result (λ grep. grep.show ≡ show) }
-    ensures searched { IfOk result (λ grep. grep.lines.searched ≡ 0) }
+    ensures next { IfOk result (λ grep. grep.lines.next ≡ record { lines = 0; bytes = 0 }) }
     ensures count { IfOk result (λ grep. grep.count ≡ 0) }
+    ensures context { IfOk result (λ grep. IsFirstContext show.flags.around grep.context) }
 {
     let view = view_of(&nfa, show.flags.how, case_insensitive, capacity)?;
     let lines = line_searcher(nfa, capacity)?;
-    Ok(Grep::new(alloc, show, lines, view))
+    let context = context_of(alloc, show.flags.around);
+    Ok(Grep::new(alloc, show, lines, view, context))
 }

@@ -19,24 +19,31 @@ pub enum Switch {
     Nothing,
     Null,
     Numbers,
+    Offsets,
     Quiet,
     Recursive,
     Silent,
     Stats,
     Syntax,
+    Tab,
     Text,
     Unnamed,
     Version,
     Which,
     Words,
+    /// Lines end in a NUL.
+    ZeroEnds,
 }
 
 /// The kind of value that a flag takes.
 #[derive(Clone, Copy)]
 pub enum Value {
+    After,
+    Before,
     BinaryFiles,
     Cache,
     Color,
+    Context,
     Exclude,
     ExcludeDirectory,
     Include,
@@ -49,6 +56,7 @@ pub enum Value {
 pub fn switch_of_letter(letter: char) -> Option<Switch> {
     let switch = match letter {
         'a' => Switch::Text,
+        'b' => Switch::Offsets,
         'c' => Switch::Count,
         'E' | 'P' => Switch::Syntax,
         'F' => Switch::Fixed,
@@ -63,12 +71,14 @@ pub fn switch_of_letter(letter: char) -> Option<Switch> {
         'q' => Switch::Quiet,
         'R' | 'r' => Switch::Recursive,
         's' => Switch::Silent,
+        'T' => Switch::Tab,
         'U' => Switch::Nothing,
         'V' => Switch::Version,
         'v' => Switch::Invert,
         'w' => Switch::Words,
         'x' => Switch::Lines,
         'Z' => Switch::Null,
+        'z' => Switch::ZeroEnds,
         _ => return None,
     };
     Some(switch)
@@ -77,6 +87,9 @@ pub fn switch_of_letter(letter: char) -> Option<Switch> {
 /// Returns the kind of value of the flag that is this letter, if it takes one.
 pub fn value_of_letter(letter: char) -> Option<Value> {
     match letter {
+        'A' => Some(Value::After),
+        'B' => Some(Value::Before),
+        'C' => Some(Value::Context),
         'e' => Some(Value::Pattern),
         'f' => Some(Value::PatternFile),
         'm' => Some(Value::Maximum),
@@ -88,11 +101,13 @@ pub fn value_of_letter(letter: char) -> Option<Value> {
 pub fn switch_of_word(word: &str) -> Option<Switch> {
     let switch = match word {
         "text" => Switch::Text,
+        "byte-offset" => Switch::Offsets,
         "count" => Switch::Count,
         "extended-regexp" | "perl-regexp" => Switch::Syntax,
         "fixed-strings" => Switch::Fixed,
         "with-filename" => Switch::Named,
         "no-filename" => Switch::Unnamed,
+        "initial-tab" => Switch::Tab,
         "ignore-case" => Switch::IgnoreCase,
         "no-ignore-case" => Switch::MatchCase,
         "files-without-match" => Switch::Missing,
@@ -107,6 +122,7 @@ pub fn switch_of_word(word: &str) -> Option<Switch> {
         "word-regexp" => Switch::Words,
         "line-regexp" => Switch::Lines,
         "null" => Switch::Null,
+        "null-data" => Switch::ZeroEnds,
         "help" => Switch::Help,
         "stats" => Switch::Stats,
         "version" => Switch::Version,
@@ -119,9 +135,12 @@ pub fn switch_of_word(word: &str) -> Option<Switch> {
 /// Returns the kind of value of the flag that is this word, if it takes one.
 pub fn value_of_word(word: &str) -> Option<Value> {
     match word {
+        "after-context" => Some(Value::After),
+        "before-context" => Some(Value::Before),
         "binary-files" => Some(Value::BinaryFiles),
         "cache" => Some(Value::Cache),
         "color" | "colour" => Some(Value::Color),
+        "context" => Some(Value::Context),
         "exclude" => Some(Value::Exclude),
         "exclude-dir" => Some(Value::ExcludeDirectory),
         "file" => Some(Value::PatternFile),

@@ -19,7 +19,16 @@ fn print_patterns(rt: &HostRuntime) -> Result<()> {
     println!(rt; "  -w, --word-regexp          matches whole words only")?;
     println!(rt; "  -x, --line-regexp          matches whole lines only")?;
     println!(rt; "  -v, --invert-match         takes the lines without a match")?;
-    Ok(println!(rt; "  -m, --max-count=NUM        takes at most NUM lines of a file")?)
+    println!(rt; "  -m, --max-count=NUM        takes at most NUM lines of a file")?;
+    Ok(println!(rt; "  -z, --null-data            lines end in a NUL, not in a line feed")?)
+}
+
+/// Prints the flags about the lines around those that are taken.
+fn print_around(rt: &HostRuntime) -> Result<()> {
+    println!(rt; "\nLines around:")?;
+    println!(rt; "  -A, --after-context=NUM    prints NUM lines after each line that is taken")?;
+    println!(rt; "  -B, --before-context=NUM   prints NUM lines before it")?;
+    Ok(println!(rt; "  -C, --context=NUM, -NUM    prints NUM lines on both sides")?)
 }
 
 /// Prints the flags about what is printed.
@@ -32,6 +41,8 @@ fn print_output(rt: &HostRuntime) -> Result<()> {
     println!(rt; "      --which                prints before each line which patterns match it")?;
     println!(rt; "  -q, --quiet, --silent      prints nothing")?;
     println!(rt; "  -n, --line-number          prints line numbers")?;
+    println!(rt; "  -b, --byte-offset          prints the offsets of lines, or of matches")?;
+    println!(rt; "  -T, --initial-tab          prints a tab before a line")?;
     println!(rt; "  -H, --with-filename        prints file names")?;
     println!(rt; "  -h, --no-filename          prints no file names")?;
     println!(rt; "  -Z, --null                 ends file names with a NUL")?;
@@ -60,6 +71,7 @@ pub fn print_help(rt: &HostRuntime) -> Result<()> {
     println!(rt; "usage: lgrep [FLAG].. PATTERN [FILE]..")?;
     println!(rt; "       lgrep [FLAG].. -e PATTERN.. -f FILE.. [FILE]..\n")?;
     print_patterns(rt)?;
+    print_around(rt)?;
     print_output(rt)?;
     print_files(rt)
 }

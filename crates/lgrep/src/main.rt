@@ -24,6 +24,13 @@
 //!
 //!     -v, --invert-match              takes the lines without a match
 //!     -m NUM, --max-count=NUM         takes at most NUM lines of each file
+//!     -z, --null-data                 a line ends in a NUL, and not in a line feed
+//!
+//! About lines around those that are taken:
+//!
+//!     -A NUM, --after-context=NUM     prints NUM lines after each line that is taken
+//!     -B NUM, --before-context=NUM    prints NUM lines before it
+//!     -C NUM, -NUM, --context=NUM     prints NUM lines on each side without a flag of its own
 //!
 //! About what is printed:
 //!
@@ -34,6 +41,8 @@
 //!     -o, --only-matching             only the matches of the lines
 //!     --which                         before each line, which patterns match it
 //!     -n, --line-number               line numbers
+//!     -b, --byte-offset               the offset of each line, or with -o of each match
+//!     -T, --initial-tab               a tab before a line, after what precedes it
 //!     -H, --with-filename             file names
 //!     -h, --no-filename               no file names
 //!     -Z, --null                      a NUL after each file name, instead of a colon or a line feed
@@ -66,12 +75,23 @@
 //! a run of bytes up to a line feed. It need not be text: a byte that is not part of a character matches
 //! `(?-u:[\x80-\xFF])`, but not `.`. Of the matches that begin at one place `-o` prints the one that the crate prefers,
 //! such as the first of several alternatives, where GNU grep prints the longest. With `-w` word characters are the
-//! ASCII letters, the digits and `_`: other letters do not count, and a match may begin or end beside them.
+//! ASCII letters, the digits and `_`: other letters do not count, and a match may begin or end beside them. The same
+//! holds of `\b`, `\B`, `\<` and `\>`.
 //!
 //! With `--which` a line begins, after its file name and its number, with the numbers of all patterns that match
 //! somewhere in it, in increasing order, separated by commas, and a colon. Patterns are numbered from 1 in the order in
 //! which they are given, so that those of one `-f FILE` have the numbers of its lines: `2,17:the line`. `--which`
 //! excludes `-o` and `-v`.
+//!
+//! # Lines around
+//!
+//! A line that is not taken has `-` in place of the colons after its number and its offset, and so after its file name.
+//! `--` on a line of its own stands between lines that do not follow each other, also if they are of two files. With
+//! `-o` only these separators are printed, and with `-c`, `-l`, `-L`, `-q` and in a binary file nothing is. After as
+//! many lines as `-m` allows, no line that follows the last of them is taken.
+//!
+//! With `-z` what is printed of a line ends in a NUL, `.` matches a line feed, `^` and `$` match only at the ends of a
+//! line, and no file is binary. Patterns are still separated by line feeds.
 //!
 //! # Files
 //!
@@ -89,24 +109,27 @@
 //!
 //! # Not supported
 //!
-//! Of GNU grep's flags there are no `-A`, `-B`, `-C`, `-b`, `-d`, `-D`, `-G`, `-T`, `-z`, `--color=always`,
-//! `--exclude-from` and `--label`; of its syntax no back-references and no look-around, also with `-P`, and no basic
-//! syntax. `\b`, `\<` and `\>` are refused outside `(?-u:)`: write `(?-u:\b)`.
+//! Of GNU grep's flags there are no `-d`, `-D`, `-G`, `--color=always`, `--exclude-from`, `--group-separator`,
+//! `--label` and `--no-group-separator`; of its syntax no back-references and no look-around, also with `-P`, and no
+//! basic syntax. `-T` does not align numbers.
 //!
 //! # What is proved
 //!
 //! It is proved that a line of a text is taken exactly if some part of it is a match of some pattern, by the meaning of
 //! the patterns' texts, or with `-v` exactly if none is, and with `-m` only the first of these lines; and that what is
-//! shown of the lines taken, and their count, are what the flags say (`Grep::search`). The patterns' texts are those
-//! that are searched for: what `-F`, `-w` and `-x` make of a pattern is tested. With `--which` the numbers are those of
-//! the patterns that match the line, each by itself. Blocks are cut after a line feed, and no byte is lost
-//! (`Blocks::take_ended`). For reading the arguments, finding the files and writing, only safety is proved.
+//! shown of the lines taken and of those around them, and their count, are what the flags say (`Grep::search`). The
+//! patterns' texts are those that are searched for: what `-F`, `-w`, `-x` and `-z` make of a pattern, and of its word
+//! boundaries, is tested. With `--which` the numbers are those of the patterns that match the line, each by itself.
+//! Blocks are cut after the end of a line, and no byte is lost (`Blocks::take_ended`). For reading the arguments,
+//! finding the files and writing, only safety is proved.
 #![tactic(auto)]
 
 ghost use Rattle.patterns.specs.Patterns.{HasNoLookCycle};
 
 mod args;
+mod around;
 mod blocks;
+mod bounds;
 mod build;
 mod files;
 mod flags;
@@ -114,6 +137,7 @@ mod globs;
 mod help;
 mod lines;
 mod paths;
+mod position;
 mod search;
 mod sets;
 mod show;
@@ -123,13 +147,13 @@ mod texts;
 mod view;
 
 use crate::args::{Args, Request};
-use crate::build::{bytewise, grep_of, patterns_nfa};
+use crate::build::{bytewise, grep_of, patterns_nfa, test_patterns};
 use crate::files::{Filter, Search};
 use crate::globs::Globs;
 use crate::help::{print_help, print_version};
 use crate::show::Show;
 use anyhow::Result;
-use patterns::PatternError;
+use patterns::{Fault, PatternError};
 use regex_automata::nfa::thompson::NFA;
 use std::alloc::Global;
 use std::env;
@@ -195,13 +219,26 @@ fn texts_of<'t>(alloc: Global, patterns: &'t [String]) -> Result<Vec<&'t str>> {
     Ok(texts)
 }
 
-/// Searches for patterns of which a match has to be a whole line, or to begin and end at the bounds of words.
+/// Searches for the patterns as the flags change them. They are valid, and an error shows them as they are.
 fn search_bounded(rt: &HostRuntime, args: &Args, inner: &[String]) -> Result<ExitCode> {
     let bounded = args.wording.bounded_texts(rt.alloc(), inner)?;
     let texts = texts_of(rt.alloc(), bounded.as_slice())?;
     match patterns_nfa(rt.alloc(), texts.as_slice(), args.wording.case_insensitive) {
         Ok(nfa) => search_files(rt, args, nfa),
         Err(error) => report(rt, texts.as_slice(), args.wording.case_insensitive, error),
+    }
+}
+
+/// Searches for patterns of which some have word boundaries. An invalid pattern is shown as it was given.
+fn search_words(
+    rt: &HostRuntime,
+    args: &Args,
+    inner: &[String],
+    texts: &[&str],
+) -> Result<ExitCode> {
+    match test_patterns(rt.alloc(), texts, args.wording.case_insensitive) {
+        Ok(()) => search_bounded(rt, args, inner),
+        Err(error) => report(rt, texts, args.wording.case_insensitive, error),
     }
 }
 
@@ -214,6 +251,9 @@ fn search_inner(rt: &HostRuntime, args: &Args) -> Result<ExitCode> {
     match patterns_nfa(rt.alloc(), texts.as_slice(), args.wording.case_insensitive) {
         Ok(nfa) if args.wording.is_plain() => search_files(rt, args, nfa),
         Ok(_) => search_bounded(rt, args, inner.as_slice()),
+        Err(error) if error.fault == Fault::UnicodeWord => {
+            search_words(rt, args, inner.as_slice(), texts.as_slice())
+        }
         Err(error) => report(rt, texts.as_slice(), args.wording.case_insensitive, error),
     }
 }

@@ -1,18 +1,29 @@
 //! Searches the lines of a file, and prints what is found in them.
-ghost use Rattle.std.specs.Prelude.{◌≡◌, ◌++◌, [], Bool, false, List, IfOk, OnOk, map, string_bytes, true};
+ghost use Rattle.std.specs.Prelude.{◌≡◌, ◌++◌, ◌∷◌, ℕ, [], Bool, false, List, IfOk, OnOk, map, true};
 ghost use Rattle.regex_hir.specs.Re.{Re};
-ghost use Rattle.lgrep.specs.Lines.{count_after, found_line, one_more};
-ghost use Rattle.lgrep.specs.Greps.{IsGrepFor, KeepsView, ShowsLines};
+ghost use Rattle.lgrep.specs.Around.{after_gap};
+ghost use Rattle.lgrep.specs.Contexts.{IsFileStart, shown_in};
+ghost use Rattle.lgrep.specs.Lines.{count_after, found_line, marked_line, one_more, taken_lines};
+ghost use Rattle.lgrep.specs.Greps.{IsGrepFor, KeepsView, ShowsAround, ShowsLines, shows_around};
+ghost use Rattle.lgrep.specs.declared.position.Position.{Position};
 ghost use Rattle.lgrep.specs.Shown.{end_shown, found_shown, lines_shown};
 
+use crate::around::Context;
 use crate::blocks::{BinaryFiles, Blocks};
-use crate::lines::{Line, LineSearcher, first_lines};
-use crate::show::{Show, end_of, is_silent, prefix};
+use crate::lines::{Line, LineSearcher, Marked, first_lines, is_full};
+use crate::show::{Show, end_of, frame_of, is_silent, prefix};
 use crate::stats::{Stats, Usage};
 use crate::view::View;
 use anyhow::{Error, Result};
 use std::alloc::Global;
 use std::io::{ErrorKind, Read, Write};
+
+/// Whether lines around those that are taken are shown.
+fn shows_around(show: &Show) -> bool
+    ensures { result ≡ shows_around show.now }
+{
+    show.flags.around.is_some() && !is_silent(show)
+}
 
 /// The searchers, and what they found in a file.
 pub struct Grep {
@@ -20,6 +31,8 @@ pub struct Grep {
     show: Show,
     lines: LineSearcher,
     view: View,
+    /// What precedes the next line, if lines around those that are taken are shown.
+    context: Context,
     shown: Vec<u8>,
     count: u64,
     /// How many bytes of the file were read.
@@ -38,6 +51,7 @@ impl Drop for Grep {
             show: _show,
             lines: _lines,
             view: _view,
+            context: _context,
             shown: _shown,
             count: _count,
             bytes: _bytes,
@@ -49,10 +63,11 @@ impl Drop for Grep {
 
 impl Grep {
     /// Returns a grep that has found nothing yet.
-    pub fn new(alloc: Global, show: Show, lines: LineSearcher, view: View) -> Grep
+    pub fn new(alloc: Global, show: Show, lines: LineSearcher, view: View, context: Context) -> Grep
         ensures show { result.show ≡ show }
         ensures lines { result.lines ≡ lines }
         ensures view { result.view ≡ view }
+        ensures context { result.context ≡ context }
         ensures shown { result.shown.items ≡ [] }
         ensures count { result.count ≡ 0 }
     {
@@ -61,6 +76,7 @@ impl Grep {
             show,
             lines,
             view,
+            context,
             shown: Vec::new(alloc),
             count: 0,
             bytes: 0,
@@ -73,14 +89,16 @@ impl Grep {
     pub fn begin(&mut self, name: String)
         ensures show { self.new.show ≡ record self.old.show { name = name; binary = false } }
         ensures dfa { self.new.lines.dfa ≡ self.old.lines.dfa }
-        ensures searched { self.new.lines.searched ≡ 0 }
+        ensures next { self.new.lines.next ≡ record { lines = 0; bytes = 0 } }
         ensures view { self.new.view ≡ self.old.view }
         ensures shown { self.new.shown.items ≡ [] }
         ensures count { self.new.count ≡ 0 }
+        ensures context { IsFileStart self.old.context.around (after_gap self.old.context.last) self.new.context }
     {
         self.show.name = name;
         self.show.binary = false;
         self.lines.begin();
+        self.context.begin();
         self.shown.clear();
         self.count = 0;
         self.bytes = 0;
@@ -133,6 +151,7 @@ impl Grep {
     /// Counts a line that is taken, and appends what is shown of it.
     fn push_line(&mut self, line: &Line<'_>) -> Result<()>
         ensures same { OnOk result ((self.new.show ≡ self.old.show) × (self.new.lines ≡ self.old.lines)) }
+        ensures context { OnOk result (self.new.context ≡ self.old.context) }
         ensures view { OnOk result (KeepsView self.old.view self.new.view) }
         ensures count { OnOk result (self.new.count ≡ one_more self.old.count) }
         ensures shown { OnOk result ((case_insensitive : Bool) (res : List Re)
@@ -143,9 +162,11 @@ impl Grep {
         if is_silent(&self.show) {
             return Ok(());
         }
-        let prefix = prefix(self.alloc, &self.show, line.number)?;
+        let prefix = prefix(self.alloc, &self.show, true, line.position.number())?;
+        let frame = frame_of(&self.show, true, line.position);
+        let bytes = prefix.as_bytes();
         self.view
-            .push(self.alloc, prefix.as_bytes(), line.bytes, &mut self.shown)
+            .push(self.alloc, bytes, &frame, line.bytes, &mut self.shown)
     }
 
     /// Counts lines that are taken, and appends what is shown of them.
@@ -165,16 +186,84 @@ impl Grep {
 
     /// Searches the lines of a text, and appends what is shown of those that are taken: with a limit, only of the first
     /// ones.
-    fn search(&mut self, text: &[u8]) -> Result<()>
+    fn search_alone(&mut self, text: &[u8]) -> Result<()>
         ensures { OnOk result ((case_insensitive : Bool) (res : List Re) → IsGrepFor case_insensitive res self.old
             → IsGrepFor case_insensitive res self.new × ShowsLines res text.now self.old self.new) }
     {
+        let flags = self.show.flags;
         let found = self
             .lines
-            .matching(self.alloc, text, self.show.flags.invert)?;
-        let first = first_lines(found.as_slice(), self.show.flags.max, self.count);
+            .matching(self.alloc, text, flags.end, flags.invert)?;
+        let first = first_lines(found.as_slice(), flags.max, self.count);
         self.push_lines(first)?;
         Ok(())
+    }
+
+    /// Appends what is shown of a line, and before it if it is taken.
+    fn push_marked(&mut self, marked: &Marked<'_>) -> Result<()>
+        ensures same { OnOk result ((self.new.show ≡ self.old.show) × (self.new.lines ≡ self.old.lines)) }
+        ensures view { OnOk result (KeepsView self.old.view self.new.view) }
+        ensures count { OnOk result (self.new.count
+            ≡ count_after self.old.count (taken_lines (marked_line marked.now ∷ []))) }
+        ensures shown { OnOk result ((case_insensitive : Bool) (res : List Re)
+            (lines : List ((Position × List ℕ) × Bool)) → IsGrepFor case_insensitive res self.old
+            → self.new.shown.items ++ shown_in self.old.show res self.new.context lines
+            ≡ self.old.shown.items ++ shown_in self.old.show res self.old.context (marked_line marked.now ∷ lines)) }
+    {
+        let alloc = self.alloc;
+        if marked.is_taken {
+            self.context
+                .show_before(alloc, &self.show, &mut self.shown)?;
+            return self.push_line(&marked.line);
+        }
+        self.context
+            .pass(alloc, &self.show, &marked.line, &mut self.shown)
+    }
+
+    /// Appends what is shown of lines.
+    fn push_all(&mut self, lines: &[Marked<'_>]) -> Result<()>
+        ensures same { OnOk result ((self.new.show ≡ self.old.show) × (self.new.lines ≡ self.old.lines)) }
+        ensures view { OnOk result (KeepsView self.old.view self.new.view) }
+        ensures count { OnOk result (self.new.count
+            ≡ count_after self.old.count (taken_lines (map marked_line lines.now))) }
+        ensures shown { OnOk result ((case_insensitive : Bool) (res : List Re)
+            (rest : List ((Position × List ℕ) × Bool)) → IsGrepFor case_insensitive res self.old
+            → self.new.shown.items ++ shown_in self.old.show res self.new.context rest
+            ≡ self.old.shown.items ++ shown_in self.old.show res self.old.context (map marked_line lines.now ++ rest)) }
+    {
+        for line in lines {
+            self.push_marked(line)?;
+        }
+        Ok(())
+    }
+
+    /// Searches the lines of a text, and appends what is shown of those that are taken, and of lines around them.
+    fn search_around(&mut self, text: &[u8]) -> Result<()>
+        ensures { OnOk result ((case_insensitive : Bool) (res : List Re) → IsGrepFor case_insensitive res self.old
+            → IsGrepFor case_insensitive res self.new × ShowsAround res text.now self.old self.new) }
+    {
+        let flags = self.show.flags;
+        let marked = self
+            .lines
+            .marked(self.alloc, text, flags.end, &flags, self.count)?;
+        self.push_all(marked.as_slice())?;
+        Ok(())
+    }
+
+    /// Searches the lines of a text, and appends what is shown of it.
+    fn search(&mut self, text: &[u8]) -> Result<()>
+        ensures alone { OnOk result (shows_around self.old.show ≡ false → (case_insensitive : Bool) (res : List Re)
+            → IsGrepFor case_insensitive res self.old
+            → IsGrepFor case_insensitive res self.new × ShowsLines res text.now self.old self.new) }
+        ensures around { OnOk result (shows_around self.old.show ≡ true → (case_insensitive : Bool) (res : List Re)
+            → IsGrepFor case_insensitive res self.old
+            → IsGrepFor case_insensitive res self.new × ShowsAround res text.now self.old self.new) }
+    {
+        if shows_around(&self.show) {
+            self.search_around(text)
+        } else {
+            self.search_alone(text)
+        }
     }
 
     /// Appends what is shown at the end of a file: its name, or the count if that is asked for.
@@ -203,12 +292,10 @@ impl Grep {
         }
     }
 
-    /// Whether no further line of the file is taken, because of a limit.
+    /// Whether no further line of the file is taken or shown, because of a limit.
     fn is_full(&self) -> bool {
-        match self.show.flags.max {
-            Some(max) => self.count >= max,
-            None => false,
-        }
+        is_full(self.show.flags.max, self.count)
+            && (!self.context.shows_next() || is_silent(&self.show))
     }
 
     /// Whether the remaining lines do not matter: no further line is taken, or a line was taken and it is only asked
@@ -274,7 +361,7 @@ impl Grep {
         output: &mut W,
         binary_files: BinaryFiles,
     ) -> Result<()> {
-        let mut blocks = Blocks::new(self.alloc, binary_files)?;
+        let mut blocks = Blocks::new(self.alloc, binary_files, self.show.flags.end)?;
         for _ in 0..u64::MAX {
             if !self.turn(&mut blocks, input, output)? {
                 break;

@@ -1,13 +1,14 @@
 //! The numbers of the patterns that match a line.
-ghost use Rattle.std.specs.Prelude.{◌≡◌, ◌++◌, Bool, List, IfOk, OnOk, false, map, string_bytes, true};
+ghost use Rattle.std.specs.Prelude.{◌≡◌, ◌∷◌, ◌++◌, Bool, List, IfOk, OnOk, false, map, string_bytes, true};
 ghost use Rattle.regex_hir.specs.Re.{Re};
 ghost use Rattle.automata_base.specs.Haystacks.PatternSet.{members};
 ghost use Rattle.regex_automata.specs.Promises.{IsCacheOf};
 ghost use Rattle.meaning.specs.Patterns.{is_found};
 ghost use Rattle.patterns.specs.Sets.{IsDfaOf};
 ghost use Rattle.lgrep.specs.Lines.{bytewise};
-ghost use Rattle.lgrep.specs.Shown.{number_after, numbered_shown, numbers_listed, which_shown};
+ghost use Rattle.lgrep.specs.Shown.{number_after, numbers_listed, which_shown};
 
+use crate::show::{Frame, push_after};
 use crate::stats::Usage;
 use anyhow::Result;
 use patterns::RegexSet;
@@ -59,15 +60,14 @@ fn numbers_of(alloc: Global, set: &PatternSet) -> Result<String>
     Ok(numbers)
 }
 
-/// Appends a line after the prefix, the numbers and a colon.
-fn push_numbered(prefix: &[u8], numbers: &str, line: &[u8], shown: &mut Vec<u8>) -> Result<()>
-    ensures { OnOk result (shown.new.items ≡ shown.old.items ++ numbered_shown prefix.now numbers.now line.now) }
+/// Returns a line after the numbers and a colon.
+fn numbered(alloc: Global, numbers: &str, line: &[u8]) -> Result<Vec<u8>>
+    ensures { IfOk result (λ bytes. bytes.items ≡ numbers.now ++ 58 ∷ line.now) }
 {
-    shown.extend_from_slice(prefix)?;
-    shown.extend_from_slice(numbers.as_bytes())?;
-    shown.push(b':')?;
-    shown.extend_from_slice(line)?;
-    Ok(shown.push(b'\n')?)
+    let mut bytes = Vec::from_slice(alloc, numbers.as_bytes())?;
+    bytes.push(b':')?;
+    bytes.extend_from_slice(line)?;
+    Ok(bytes)
 }
 
 impl SetSearcher {
@@ -79,22 +79,24 @@ impl SetSearcher {
         Ok(SetSearcher { set, cache })
     }
 
-    /// Appends a line, after the prefix and the numbers of the patterns that match it.
+    /// Appends a line in the frame, after the prefix and the numbers of the patterns that match it.
     pub fn push_which(
         &mut self,
         alloc: Global,
         prefix: &[u8],
+        frame: &Frame,
         line: &[u8],
         shown: &mut Vec<u8>,
     ) -> Result<()>
         ensures same { self.new.set ≡ self.old.set }
         ensures shown { OnOk result ((case_insensitive : Bool) (res : List Re)
             → IsDfaOf (bytewise case_insensitive) res self.old.set.dfa → shown.new.items
-            ≡ shown.old.items ++ which_shown prefix.now line.now (map (is_found false line.now) res)) }
+            ≡ shown.old.items ++ which_shown prefix.now frame.now line.now (map (is_found false line.now) res)) }
     {
         let found = self.set.which(alloc, &mut self.cache, line)?;
         let numbers = numbers_of(alloc, &found)?;
-        push_numbered(prefix, numbers.as_str(), line, shown)
+        let bytes = numbered(alloc, numbers.as_str(), line)?;
+        push_after(alloc, prefix, frame, 0, bytes.as_slice(), shown)
     }
 
     /// Returns the number of the last pattern that matches a text, counted from 0, if one does.

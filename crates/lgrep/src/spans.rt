@@ -5,12 +5,14 @@ ghost use Rattle.regex_automata.specs.Promises.{AreCachesOf};
 ghost use Rattle.meaning.specs.Patterns.{left_any};
 ghost use Rattle.patterns.specs.Patterns.{IsRegexOf};
 ghost use Rattle.lgrep.specs.Lines.{bytewise};
-ghost use Rattle.lgrep.specs.Shown.{part_shown, parts_shown, shown_after};
+ghost use Rattle.lgrep.specs.Shown.{part_shown, parts_shown};
 
+use crate::show::{Frame, push_after};
 use crate::stats::Usage;
 use anyhow::Result;
 use patterns::Pattern;
 use regex_automata::hybrid::regex::Cache;
+use std::alloc::Global;
 
 /// A pattern and its caches.
 pub struct SpanSearcher {
@@ -29,23 +31,21 @@ impl Drop for SpanSearcher {
     }
 }
 
-/// Appends bytes after the prefix and before a line feed.
-pub fn push_after(prefix: &[u8], bytes: &[u8], shown: &mut Vec<u8>) -> Result<()>
-    ensures { OnOk result (shown.new.items ≡ shown.old.items ++ shown_after prefix.now bytes.now) }
-{
-    shown.extend_from_slice(prefix)?;
-    shown.extend_from_slice(bytes)?;
-    Ok(shown.push(b'\n')?)
-}
-
-/// Appends a match, unless it is empty.
-fn push_part(prefix: &[u8], part: &[u8], shown: &mut Vec<u8>) -> Result<()>
-    ensures { OnOk result (shown.new.items ≡ shown.old.items ++ part_shown prefix.now part.now) }
+/// Appends a match that begins at `start` in a line, unless it is empty.
+fn push_part(
+    alloc: Global,
+    prefix: &[u8],
+    frame: &Frame,
+    start: usize,
+    part: &[u8],
+    shown: &mut Vec<u8>,
+) -> Result<()>
+    ensures { OnOk result (shown.new.items ≡ shown.old.items ++ part_shown prefix.now frame.now start part.now) }
 {
     if part.is_empty() {
         return Ok(());
     }
-    push_after(prefix, part, shown)
+    push_after(alloc, prefix, frame, start, part, shown)
 }
 
 impl SpanSearcher {
@@ -57,16 +57,24 @@ impl SpanSearcher {
         Ok(SpanSearcher { pattern, caches })
     }
 
-    /// Appends each nonempty match of a line, after the prefix and before a line feed.
-    pub fn push_matches(&mut self, prefix: &[u8], line: &[u8], shown: &mut Vec<u8>) -> Result<()>
+    /// Appends each nonempty match of a line, after the prefix and in the frame.
+    pub fn push_matches(
+        &mut self,
+        alloc: Global,
+        prefix: &[u8],
+        frame: &Frame,
+        line: &[u8],
+        shown: &mut Vec<u8>,
+    ) -> Result<()>
         ensures same { self.new.pattern ≡ self.old.pattern }
         ensures shown { OnOk result ((case_insensitive : Bool) (res : List Re)
             → IsRegexOf (bytewise case_insensitive) res self.old.pattern.regex → shown.new.items
-            ≡ shown.old.items ++ parts_shown prefix.now line.now (left_any false res line.now None)) }
+            ≡ shown.old.items ++ parts_shown prefix.now frame.now line.now (left_any false res line.now None)) }
     {
         for found in self.pattern.find_iter(&mut self.caches, line) {
             let found = found?;
-            push_part(prefix, &line[found.start()..found.end()], shown)?;
+            let part = &line[found.start()..found.end()];
+            push_part(alloc, prefix, frame, found.start(), part, shown)?;
         }
         Ok(())
     }

@@ -6,7 +6,8 @@ ghost use Rattle.lgrep.specs.Shown.{line_shown};
 ghost use Rattle.lgrep.specs.declared.show.How as how;
 
 use crate::sets::SetSearcher;
-use crate::spans::{SpanSearcher, push_after};
+use crate::show::{Frame, push_after};
+use crate::spans::SpanSearcher;
 use crate::stats::Usage;
 use anyhow::Result;
 use std::alloc::Global;
@@ -30,23 +31,24 @@ impl Drop for View {
 }
 
 impl View {
-    /// Appends what is shown of a line.
+    /// Appends what is shown of a line, after the prefix and in the frame.
     pub fn push(
         &mut self,
         alloc: Global,
         prefix: &[u8],
+        frame: &Frame,
         line: &[u8],
         shown: &mut Vec<u8>,
     ) -> Result<()>
         ensures same { OnOk result (KeepsView self.old self.new) }
         ensures shown { OnOk result ((case_insensitive : Bool) (asked : how.How) (res : List Re)
             → IsViewFor case_insensitive asked res self.old
-            → shown.new.items ≡ shown.old.items ++ line_shown asked res prefix.now line.now) }
+            → shown.new.items ≡ shown.old.items ++ line_shown asked res prefix.now frame.now line.now) }
     {
         match self {
-            View::Whole => push_after(prefix, line, shown),
-            View::Matches(spans) => spans.push_matches(prefix, line, shown),
-            View::Which(sets) => sets.push_which(alloc, prefix, line, shown),
+            View::Whole => push_after(alloc, prefix, frame, 0, line, shown),
+            View::Matches(spans) => spans.push_matches(alloc, prefix, frame, line, shown),
+            View::Which(sets) => sets.push_which(alloc, prefix, frame, line, shown),
         }
     }
 

@@ -18,7 +18,7 @@ pub use automata_hybrid::laws::{
     walks_are_whole,
 };
 pub use automata_transform::laws::{
-    anchored_answers_alike, merged_answers_alike, reversed_is_true,
+    anchored_answers_alike, flattened_answers_alike, merged_answers_alike, reversed_is_true,
 };
 
 /// Two searches for a match with its start that succeed on one input find the same, over one regex, or over two of the

@@ -3,4 +3,4 @@
 pub use automata_base::nfa::thompson::{
     BuildError, Builder, Flags, NFA, NfaError, State, Transition,
 };
-pub use automata_transform::{ReverseError, anchored, merged, reversed};
+pub use automata_transform::{ReverseError, anchored, flattened, merged, reversed};

@@ -17,14 +17,17 @@ loop-found-preserved c =
     t.ended steps.0 in
     record {
       shown =
-          match_turn c.args.self.now.pattern.regex c.args.prefix.now c.args.line.now c.args.shown.now.items
+          match_turn c.args.self.now.pattern.regex c.args.prefix.now c.args.frame.now c.args.line.now
+          c.args.shown.now.items
           s.pattern.now.regex s.haystack.now
           (ap (λ (p : Pattern). p.regex) i.pattern) i.haystack c.loop-found.shown.items s.last i.shown
           c.push_part.new.shown.items
           c.in_ok-found.found t.last item.0 item.1
           (c.in_ok-push_part.ensures
-          ∙ ap₂ (λ a b. c.loop-found.shown.items ++ part_shown c.args.prefix.now (slice_range c.args.line.now a b))
-          c.start.ensures.start c.end.ensures.end);
+          ∙ ap (λ start. c.loop-found.shown.items ++ part_shown c.args.prefix.now c.args.frame.now start
+          (slice_range c.args.line.now c.start.result c.end.result)) c.start-in-loop-found.ensures.start
+          ∙ ap₂ (λ a b. c.loop-found.shown.items ++ part_shown c.args.prefix.now c.args.frame.now
+          c.in_ok-found.found.start (slice_range c.args.line.now a b)) c.start.ensures.start c.end.ensures.end);
       pattern = steps.1 ∙ i.pattern;
       haystack = steps.2 ∙ i.haystack;
       going = item.2;
@@ -36,7 +39,8 @@ returns-clause-shown c =
     let i = c.loop-found.invariant in
     let s = c.loop-found.found-iterator in
     let t = c.next.new.self in
-    match_end c.args.self.now.pattern.regex c.args.prefix.now c.args.line.now c.args.shown.now.items s.pattern.now.regex
+    match_end c.args.self.now.pattern.regex c.args.prefix.now c.args.frame.now c.args.line.now c.args.shown.now.items
+    s.pattern.now.regex
     s.haystack.now
     (ap (λ (p : Pattern). p.regex) i.pattern) i.haystack c.loop-found.shown.items s.last i.shown
     (item_none s.pattern.now s.cache.now t.cache.now s.haystack.now s.last t.last s.ended t.ended

@@ -1,11 +1,11 @@
 use Rattle.std.proofs.Common.{◌≡◌, ◌∙◌, ℕ, ◌-◌, List, Option, None, Some, ap, map, refl, subst, sym}
 use Rattle.std.proofs.lemmas.List.{take-map}
 use Rattle.meaning.specs.Patterns.{HasPart}
-use Rattle.lgrep.specs.Lines.{AreMatching, IsWanted, first_lines, found_line, lines, numbered}
+use Rattle.lgrep.specs.Lines.{AreMatching, IsWanted, first_lines, found_line, lines, positioned}
 use Rattle.lgrep.specs.declared.lines.Line.{Line}
 use Rattle.lgrep.specs.declared.lines.LineSearcher.{LineSearcher}
 use Rattle.lgrep.proofs.Printing.{grep_kept, view_same}
-use Rattle.lgrep.proofs.search.Grep.search.Goals as goal
+use Rattle.lgrep.proofs.search.Grep.search_alone.Goals as goal
 
 -- the first lines, with their numbers
 firsts :
@@ -25,7 +25,8 @@ returns c = λ case_insensitive res is.
         matching =
             subst (λ (v : List Line). AreMatching
             (λ line. IsWanted c.args.self.now.show.flags.invert (HasPart res line.1))
-            (numbered c.args.self.now.lines.searched (lines c.args.text.now)) (map found_line v))
+            (positioned c.args.self.now.lines.next (lines c.args.self.now.show.flags.end c.args.text.now))
+            (map found_line v))
             (sym c.as_slice.ensures.value) (c.in_ok-found.ensures.meant case_insensitive res is.0);
         found = map found_line c.first_lines-first.result.now;
         first =
