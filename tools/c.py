@@ -3,8 +3,8 @@
 
     tools/c.py [--archive FILE] ['N passed, M failed']
 
-Every call, with valid and with every kind of invalid arguments (calls.c, texts.c, options.c, limits.c, facts.c,
-pieces.c, walks.c); regexes of texts beside the same without needles (needles.c); each allocation made to fail in turn
+Every call, with valid and with every kind of invalid arguments (calls.c, texts.c, options.c, groups.c, limits.c,
+facts.c, pieces.c, walks.c); regexes of texts beside the same without needles (needles.c); each allocation made to fail in turn
 (faults.c); the memory that caches take from malloc, compared with what they report (memory.c); four threads over one
 regex (threads.c), under helgrind too if it is installed; the script of the program `lazydfa`, run by a C program
 (script.c), which has to print what `lazydfa` prints; the example grep.c, which has to print what `grep -E` prints, if
@@ -157,6 +157,7 @@ class Tests:
         self.try_program(f"calls{kind}", f"{C}/tests/calls.c", flags)
         self.try_program(f"texts{kind}", f"{C}/tests/texts.c", ["-pthread", *flags])
         self.try_program(f"options{kind}", f"{C}/tests/options.c", flags)
+        self.try_program(f"groups{kind}", f"{C}/tests/groups.c", flags)
         self.try_program(f"limits{kind}", f"{C}/tests/limits.c", flags)
         self.try_program(f"facts{kind}", f"{C}/tests/facts.c", flags)
         self.try_program(f"pieces{kind}", f"{C}/tests/pieces.c", flags)

@@ -4,14 +4,16 @@
 # In FOLDER are then, for Linux on x86-64-v2: a tarball with the library for C (archive, shared library, headers, files
 # for pkg-config and CMake, a manual page, guides, licences, and BUILD, which says of what it was made); the Debian
 # packages liblazydfa1, liblazydfa-dev, lgrep (a grep) and, if the server's headers are there,
-# postgresql-15-lazydfa; the Rust crate with the archive in it; the Python package; and SHA256SUMS. Equal commits and
-# archives give equal bytes: times are those of the commit.
+# postgresql-15-lazydfa; the Rust crate with the archive in it; the Python package; a tarball with lgrep; and SHA256SUMS.
+# Equal commits and archives give equal bytes: times are those of the commit.
 #
 # With --clean-root all of it is installed in a new Debian root, which mmdebstrap makes, and used there
 # (dist/clean_root.sh); that takes root and Debian's packages, and some minutes.
 #
-# The archive is the one that `rt lib` proves and builds, and the program the one that `rt ci` does. ARCHIVE and PROGRAM
-# name others; BUILD then says that the archive was not proved by this call. It needs rt, make, cc, binutils and dpkg-deb, and git, for the commit.
+# The archive is the one that `rt lib` proves and builds, and the program is linked from the object file that `rt ci` or
+# `rt run` leaves beside it. ARCHIVE and PROGRAM name others; BUILD then says that the archive was not proved by this
+# call. It needs rt, make, cc, binutils and dpkg-deb, and git, for the commit. lgrep is linked statically, so that it
+# runs whatever the C library of a machine.
 set -euo pipefail
 tools=$(cd "$(dirname "$0")" && pwd)
 top=$(dirname "$tools")
@@ -101,13 +103,33 @@ make_tarball() {
     packed "$name" "$name.tar.gz"
 }
 
+# Links the program without a shared library. The object file with which it can be linked again is a part of the release,
+# as the licence of the C library asks.
+link_program() { # FOLDER
+    ld -r -o "$1/lgrep.o" "$program.o" "$kit/c/libos_c.a" "$kit/c/liblibc_c.a"
+    cc -static-pie -o "$1/lgrep" "$1/lgrep.o" \
+        -Wl,--gc-sections,--build-id=sha1,-z,relro,-z,now,-z,noexecstack
+    strip "$1/lgrep"
+    strip --strip-unneeded "$1/lgrep.o"
+}
+
+# The package of the C library that is linked in, and its version.
+library_linked() {
+    dpkg-query -W -f '${source:Package} (= ${source:Version})' libc6-dev
+}
+
 make_program() {
-    mkdir -p "$room/lgrep"
-    strip -o "$room/lgrep/lgrep" "$program"
-    chmod 755 "$room/lgrep/lgrep"
+    folder=$room/lgrep-$version-x86_64-linux
+    mkdir -p "$folder/completions"
+    link_program "$folder"
     sed -n 's|^//! \?||p' "$top/crates/lgrep/src/main.rt" | awk -f "$tools/dist/manual.awk" |
-        manual lgrep 1 'print the lines of files that patterns match' | gzip -9n >"$room/lgrep/lgrep.1.gz"
-    cp "$tools"/dist/completions/* "$room/lgrep"
+        manual lgrep 1 'print the lines of files that patterns match' >"$folder/lgrep.1"
+    cp "$tools"/dist/completions/* "$folder/completions"
+    cp "$top"/LICENSE-* "$folder"
+    cp -r "$top/LICENSES" "$folder"
+    cp /usr/share/common-licenses/LGPL-2.1 "$folder/LICENSES"
+    sed "s/@LIBRARY@/$(library_linked)/" "$tools/dist/README.lgrep.in" >"$folder/README"
+    packed "$(basename "$folder")" "$(basename "$folder").tar.gz"
 }
 
 make_crate() {
@@ -142,7 +164,7 @@ build_library
 make_tarball
 make_crate
 make_python
-if [ -x "$program" ]; then make_program; else echo "there is no $program, so no package lgrep" >&2; fi
+if [ -f "$program.o" ]; then make_program; else echo "there is no $program.o, so no lgrep" >&2; fi
 # shellcheck source=tools/dist/debs.sh
 . "$tools/dist/debs.sh"
 (cd "$out" && sha256sum ./*.tar.gz ./*.deb | tee SHA256SUMS)

@@ -37,6 +37,24 @@ names_archive() {
     grep -q "^archive $(sha256sum <"$ARCHIVE" | cut -d ' ' -f 1)$" "$room/lazydfa/share/doc/lazydfa/BUILD"
 }
 
+# The program asks for no shared library, and runs where there is no other file.
+is_static() {
+    mkdir "$room/empty" &&
+        tar -C "$room/empty" --strip-components=1 -xf "$room"/first/lgrep-*-linux.tar.gz &&
+        ! objdump -p "$room/empty/lgrep" | grep -qE "NEEDED|INTERP" &&
+        [ "$("$room/empty/lgrep" -c lgrep "$room/empty/README")" -gt 3 ] || return 1
+    [ "$(id -u)" -ne 0 ] || [ "$(chroot "$room/empty" /lgrep -c lgrep README)" -gt 3 ]
+}
+
+links_again() {
+    cc -static-pie -o "$room/again" "$room/empty/lgrep.o" && [ "$("$room/again" -V)" = "$("$room/empty/lgrep" -V)" ]
+}
+
+# On an older processor, which an emulator of user programs has, the program ends with 127 and a message.
+needs_level() {
+    "$1" -cpu Nehalem "$room/empty/lgrep" -V && ! "$1" -cpu qemu64 "$room/empty/lgrep" -V
+}
+
 packages_crate() {
     tar -C "$room" -xf "$room"/first/lazydfa-*-rust.tar.gz && cd "$room"/lazydfa-*/ &&
         cargo package --quiet --offline --allow-dirty --target-dir "$room/target"
@@ -54,6 +72,12 @@ else
     test_that "what it is made of" names_archive
     test_that "a program with the archive" prints_words "$room/lazydfa/lib/liblazydfa.a"
     test_that "a program with the shared library" prints_words "$room/lazydfa/lib/liblazydfa.so"
+    if ls "$room"/first/lgrep-*-linux.tar.gz >/dev/null 2>&1; then
+        test_that "lgrep without a shared library" is_static
+        test_that "lgrep, linked again" links_again
+        emulator=$(command -v qemu-x86_64 qemu-x86_64-static | head -n 1)
+        if [ -n "$emulator" ]; then test_that "lgrep on an older processor" needs_level "$emulator"; fi
+    fi
     if command -v cargo >/dev/null; then test_that "the Rust crate as a package" packages_crate; fi
 fi
 echo "$passed passed, $failed failed"

@@ -43,6 +43,11 @@ TEXTS = {
     "code/a.c": b"// TODO: foo.bar\nint main(void) {\n    foo(1);\n    return foo;\n}\n",
     "code/sub/b.py": b"def foo():\n    # TODO\n    pass\nfoo\n",
     "crlf": b"a foo\r\nfoo\r\nfoo\n",
+    "letters": b"a\na\nb\nc\nd\na\ne\nf\ng\nh\na\na\n",
+    "records": b"a lazy\nrecord\0x\0\0lazy\0last \nlazy",
+    # Several blocks, with matches near their ends.
+    "blocks": "".join(f"{it} {'lazy' if it % 977 < 2 or it % 7919 > 7915 else 'x' * (it % 13)}\n"
+                      for it in range(90_000)).encode(),
 }
 LINKS = {"tree/link": "../short", "tree/loop": "a", "linked": "tree"}
 INPUT = "a lazy line\nanother\n"
@@ -240,6 +245,78 @@ CALLS = [
     ["--exclude-dir=tree", "lazy", "tree", "short"],
     ["-r", "lazy", "--include=.*", "tree"],
     ["-r", "lazy", "--exclude=*", "tree"],
+    # Lines around those that are taken.
+    ["-A1", "lazy", "short"],
+    ["-B", "2", "77", "short"],
+    ["-C1", "c", "letters"],
+    ["-1", "c", "letters"],
+    ["-n12", "c", "letters"],
+    ["-1n2", "c", "letters"],
+    ["-A0", "a", "letters"],
+    ["-C0", "a", "letters", "letters"],
+    ["-nbC1", "a", "letters", "short", "letters"],
+    ["-ZnHC1", "c", "letters"],
+    ["-C2", "-A0", "c", "letters"],
+    ["-A0", "-C2", "c", "letters"],
+    ["-B1000000", "-n", "h", "letters"],
+    ["--after-context=1", "--before-context", "2", "-n", "c", "letters"],
+    ["--context=1", "-h", "c", "letters", "letters"],
+    ["--context", "c", "letters"],
+    ["-A", "-1", "c", "letters"],
+    ["-C1", "no such", "letters"],
+    ["-nvC1", "a", "letters"],
+    ["-oC1", "c", "letters", "letters"],
+    ["-cC1", "a", "letters"],
+    ["-lC1", "a", "letters"],
+    ["-LC1", "no such", "letters"],
+    ["-qC1", "a", "letters"],
+    ["-m1", "-nA2", "a", "letters"],
+    ["-m2", "-nA20", "a", "letters"],
+    ["-m1", "-nvA20", "a", "letters"],
+    ["-m1", "-nC1", "a", "letters", "letters"],
+    ["-C1", "lazy", "short", "binary"],
+    ["-aC1", "lazy", "binary", "short"],
+    ["-rhC1", "lazy", "tree/b"],
+    ["-nC3", "lazy", "blocks"],
+    ["-nB700", "lazy", "blocks"],
+    ["-nA700", "lazy", "blocks"],
+    ["-bA1", "lazy", "blocks"],
+    ["-nm9", "-C40", "lazy", "blocks"],
+    ["-cvC2", "lazy", "blocks"],
+    # Offsets, tabs, and lines that end in a NUL.
+    ["-b", "lazy", "short"],
+    ["-bo", "[a-z]+", "short", "letters"],
+    ["-bon", "o", "words"],
+    ["-bc", "lazy", "short"],
+    ["-bv", "lazy", "short", "README.md"],
+    ["--byte-offset", "--only-matching", "lazy", "blocks"],
+    ["-T", "a|^$", "short"],
+    ["-HT", "a|^$", "short"],
+    ["-HTZ", "a|^$", "short"],
+    ["--initial-tab", "-H", "-C1", "two", "short"],
+    ["-z", "lazy", "records"],
+    ["-zn", "lazy", "records"],
+    ["-zb", "-o", "lazy|last", "records"],
+    ["-zc", "^$", "records"],
+    ["-zv", "lazy", "records"],
+    ["-zx", "a lazy.record", "records"],
+    ["-zl", "lazy", "records", "short"],
+    ["-zHC1", "x", "records", "short"],
+    ["-znA0", "lazy", "records"],
+    ["-zw", "lazy|record", "records"],
+    ["-zF", "y\nr", "records"],
+    ["-zo", "y.r|st", "records"],
+    ["-zc", "^record", "records"],
+    ["--null-data", "-Z", "-H", "-n", "record", "records"],
+    # Word boundaries.
+    ["\\bfoo\\b", "words"],
+    ["-o", "\\<f|o\\>", "words"],
+    ["-on", "\\Boo|r\\B", "words"],
+    ["[]\\_]\\b|[[:punct:]]\\b", "words"],
+    ["-x", "\\bfoo\\b", "words"],
+    ["-w", "\\bfoo", "words"],
+    ["-F", "\\bfoo", "words"],
+    ["-e", "\\bbar", "-e", "foo\\>", "words", "code/a.c"],
     ["foo$", "crlf"],
     ["[[:alpha:]]+", "code/sub/b.py"],
 ]
@@ -362,13 +439,21 @@ def own(program, room):
     yield "--version", run([program, "-V"], room), (0, f"lgrep {version()}\n".encode(), b"")
     helped = run([program, "-n", "--help"], room)
     yield "--help", (helped[0], helped[2]), (0, b"")
-    for flag in ("-T", "--no-such", "-nA1"):
-        said = f"lgrep: no flag {flag.replace('nA1', 'A')}; see lgrep --help\n".encode()
+    for flag in ("-G", "--no-such", "-nD1"):
+        said = f"lgrep: no flag {flag.replace('nD1', 'D')}; see lgrep --help\n".encode()
         yield flag, run([program, flag, "lazy", "short"], room), (2, b"", said)
     said = b"lgrep: --color=always is not supported: lgrep prints no colors\n"
     yield "--color=always", run([program, "--color=always", "lazy", "short"], room), (2, b"", said)
     yield "-F -E", run([program, "-cF", "-E", "foo|FOO", "words"], room)[1], b"7\n"
     yield "-w beside other letters", run([program, "-ow", "ber", "words"], room)[1], b"ber\nber\n"
+    yield "\\b beside other letters", run([program, "-o", "\\bber", "words"], room)[1], b"ber\nber\n"
+    found = run([program, "-o", "\\b{start-half}-\\b{end}|\\b{start}o|\\b{1}1", "words"], room)
+    yield "other word boundaries", found[:2], (0, b"1\n")
+    for pattern in ("\\bfoo)", "[\\b]"):
+        said = run([program, "-e", "\\bfoo", "-e", pattern, "words"], room)[2]
+        yield f"the error of {pattern}", f"\n  {pattern}\n".encode() in said, True
+    found = run([program, "--which", "-nC1", "-e", "c", "-e", "[cd]", "letters"], room)
+    yield "--which -C1", found[1], b"3-b\n4:1,2:c\n5:2:d\n6-a\n"
     manual = flags_in(FLAGGED[0])
     yield "the flags of --help are in the manual", spelled(helped[1].decode()) - manual, set()
     for name in FLAGGED[1:]:

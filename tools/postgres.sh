@@ -169,7 +169,8 @@ test_readme() {
     same "the statements of the README" "1
 timeout on disk 2|{1}
 refused 503|{2,3}
-done|{}" "$(sql -d readme -c "$statements")"
+done|{}
+{timeout,2}" "$(sql -d readme -c "$statements")"
 }
 
 test_answers() {
@@ -183,6 +184,7 @@ $(cat "$room/extension/regression.diffs")"
         sql -c "CREATE EXTENSION lazydfa" -c "CREATE TABLE logs(line text)" -c "COPY logs FROM STDIN" -c "ANALYZE logs"
     agrees "beside ~" agree.py 10000 1
     agrees "in pieces" pieces.py 1000 1
+    agrees "groups" groups.py 2000 1
     if [ -f "$("$config" --sharedir)/extension/pg_trgm.control" ]; then
         agrees "by indexes" indexed.py 20000 1 3
     else
@@ -258,6 +260,8 @@ test_long() {
         "lazydfa_substr(value, '$many')" "lazydfa_substr(left(value, 1000000), '$back|\$')" \
         "lazydfa_count(value, 'a')" "lazydfa_count(value, 'x*')" "lazydfa_count(value, '$many')" \
         "lazydfa_matches(value, '$empty')" "lazydfa_replace(value, '$many', '')" \
+        "lazydfa_replace(value, '([a-f])', '<\\1>', 'g')" "lazydfa_captures(value, '([a-f])?($many)')" \
+        "lazydfa_split(value, '[a-f]')" "lazydfa_split(value, '$empty')" \
         "lazydfa_tokens(value, array['.*$many', 'y'])" "value =~ '([a-f0-9]?){150000}x'"; do
         within "$search, cancelled" 1000 \
             stopped "SELECT $search FROM long" pg_cancel_backend "canceling statement due to user request"
@@ -289,6 +293,12 @@ costly() {
 'a' =~* ('[' || repeat('\pL\PL', 1000) || ']')
 lazydfa_count('a', '[a-f].{50000}x')
 lazydfa_count('a', repeat('()', 32768))
+lazydfa_captures('a', repeat('()', 32768))
+lazydfa_captures('a', repeat('(a)?', 16384))
+lazydfa_captures('a', '(\w{180})')
+lazydfa_captures(repeat('a', 100), '([a-f].{50000}x|a*)')
+lazydfa_captures(repeat('a', 30), '(([a-f0-9]?){150000})')
+lazydfa_replace(repeat('a', 16000), '(([a-f0-9]?){150})*', '\1', 'g')
 (lazydfa_tokens('a', array_fill('a'::text, array[65536]))).pattern
 count(*) FROM small WHERE s =~* repeat('\PL', 21800)
 count(*) FROM small WHERE s =~* repeat('\PL', 2000)
@@ -372,10 +382,12 @@ SELECT pg_backend_pid() \gset
 \! $LIMIT --as=$(($(awk '/^VmSize/ { print $2 }' "/proc/$BACKEND/status") * 1024 + 3000000)) --pid "$BACKEND"
 \set VERBOSITY sqlstate
 SELECT 'a' =~ '\w{100}';
+SELECT lazydfa_captures('a', '(\w{100})');
 SELECT 'still there' =~ 'there$';
 END
 )
     same "a backend without memory" "t
+ERROR:  53200
 ERROR:  53200
 t" "$said"
 }

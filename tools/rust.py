@@ -3,10 +3,13 @@
 
     tools/rust.py ['N passed, M failed']
 
-These are the tests of bindings/rust/tests, the examples, and the programs of bindings/rust/README.md, which are doctests. Cargo
-needs no network and builds in a temporary folder. If cargo is missing, or too old for the crate, the script says so and
-tests nothing. The last line counts the tests, added to those that the given line counts.
+These are the tests of bindings/rust/tests, the examples, and the programs of bindings/rust/README.md, which are
+doctests; and, if Debian's librust-regex-dev is installed (or REGEX_SOURCES names a folder with its sources), the groups,
+replacements and parts of random patterns beside those of Rust's crate regex (compare/captures). Cargo needs no network
+and builds in a temporary folder. If cargo is missing, or too old for the crate, the script says so and tests nothing.
+The last line counts the tests, added to those that the given line counts.
 """
+import glob
 import os
 import re
 import shutil
@@ -16,6 +19,13 @@ import tempfile
 
 TOP = os.path.dirname(os.path.dirname(os.path.abspath(__file__)))
 CRATE, LIBRARY = f"{TOP}/bindings/rust", f"{TOP}/bindings/c/out"
+PEER, PEERS = f"{TOP}/tools/compare/captures", os.environ.get("REGEX_SOURCES", "/usr/share/cargo/registry")
+CONFIG = """[source.crates-io]
+replace-with = "peers"
+[source.peers]
+directory = "{peers}"
+"""
+PATTERNS = "2000"
 RESULT = re.compile(r"^test result: \w+\. (\d+) passed; (\d+) failed", re.M)
 
 
@@ -50,6 +60,21 @@ def test():
     return passed, max(failed, 1) if is_wrong else 0
 
 
+def compare(room):
+    """Compares random patterns with those of the crate regex, in a folder, and returns whether nothing differs."""
+    shutil.copytree(PEER, room, dirs_exist_ok=True)
+    os.symlink(CRATE, f"{room}/lazydfa")
+    os.mkdir(f"{room}/.cargo")
+    with open(f"{room}/.cargo/config.toml", "w", encoding="utf-8") as it:
+        it.write(CONFIG.format(peers=PEERS))
+    names = {"CARGO_TARGET_DIR": f"{room}/target", "CARGO_NET_OFFLINE": "true", "LAZYDFA_LIB": LIBRARY}
+    words = ["cargo", "run", "--quiet", "--release", "--", PATTERNS]
+    how = {"cwd": room, "env": {**os.environ, **names}, "stdin": subprocess.DEVNULL, "text": True}
+    ran = subprocess.run(words, **how, stdout=subprocess.PIPE, stderr=subprocess.STDOUT)
+    print(f"groups beside those of regex: {ran.stdout}", end="")
+    return ran.returncode == 0
+
+
 def main(words):
     counted = re.fullmatch(r"(\d+) passed, (\d+) failed", words[0] if words else "0 passed, 0 failed")
     passed, failed = (int(counted[1]), int(counted[2])) if counted else (0, 1)
@@ -60,6 +85,12 @@ def main(words):
         right, wrong = test()
         print(f"the Rust crate: {right} tests passed, {wrong} failed")
         passed, failed = passed + right, failed + wrong
+        if glob.glob(f"{PEERS}/regex-1.*"):
+            with tempfile.TemporaryDirectory(prefix="rust-") as room:
+                is_same = compare(room)
+            passed, failed = passed + is_same, failed + (not is_same)
+        else:
+            print(f"groups beside those of regex: skipped, since {PEERS} does not have it")
     print(f"{passed} passed, {failed} failed")
     return 1 if failed else 0
 

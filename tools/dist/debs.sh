@@ -35,7 +35,8 @@ finish() { # NAME SECTION DEPENDS SHORT [FIELD..]
     {
         printf 'Package: %s\nSource: lazydfa\nVersion: %s\nArchitecture: amd64\n' "$1" "$revision"
         printf 'Maintainer: %s\nInstalled-Size: %s\n' "$maintainer" "$(du -sk --exclude=DEBIAN "$it" | cut -f 1)"
-        printf 'Depends: %s\nSection: %s\nPriority: optional\n' "$3" "$2"
+        if [ -n "$3" ]; then echo "Depends: $3"; fi
+        printf 'Section: %s\nPriority: optional\n' "$2"
         for field in "${@:5}"; do echo "$field"; done
         printf 'Description: %s\n' "$4"
         sed 's/^/ /'
@@ -80,15 +81,21 @@ END
 
 package_program() {
     begin lgrep
+    {
+        printf '\nFiles: the GNU C library, which is linked in\nCopyright: as the licence says\nLicense: LGPL-2.1\n'
+        echo " On Debian systems the text is in /usr/share/common-licenses/LGPL-2.1."
+    } >>"$it/usr/share/doc/lgrep/copyright"
     mkdir -p "$it/usr/bin" "$it/usr/share/man/man1"
-    cp "$room/lgrep/lgrep" "$it/usr/bin"
-    cp "$room/lgrep/lgrep.1.gz" "$it/usr/share/man/man1"
-    install -D -m 644 "$room/lgrep/lgrep.bash" "$it/usr/share/bash-completion/completions/lgrep"
-    install -D -m 644 "$room/lgrep/_lgrep" "$it/usr/share/zsh/vendor-completions/_lgrep"
-    install -D -m 644 "$room/lgrep/lgrep.fish" "$it/usr/share/fish/vendor_completions.d/lgrep.fish"
-    finish lgrep utils "libc6" "print the lines of files that patterns match" <<END
+    cp "$folder/lgrep" "$it/usr/bin"
+    gzip -9n <"$folder/lgrep.1" >"$it/usr/share/man/man1/lgrep.1.gz"
+    install -D -m 644 "$folder/completions/lgrep.bash" "$it/usr/share/bash-completion/completions/lgrep"
+    install -D -m 644 "$folder/completions/_lgrep" "$it/usr/share/zsh/vendor-completions/_lgrep"
+    install -D -m 644 "$folder/completions/lgrep.fish" "$it/usr/share/fish/vendor_completions.d/lgrep.fish"
+    finish lgrep utils "" "print the lines of files that patterns match" "Built-Using: $(library_linked)" <<END
 The syntax of patterns is that of the Rust crate regex. It searches for many
-patterns at once, in time linear in the text.
+patterns at once, in time linear in the text. It is linked statically; the
+object file to link it again is in the tarball of the same release. The code
+needs a processor of the level x86-64-v2.
 END
 }
 
@@ -107,7 +114,8 @@ package_extension() {
     strip --strip-unneeded "$it/usr/lib/postgresql/15/lib/lazydfa.so"
     cp "$top/bindings/postgres/README.md" "$it/usr/share/doc/postgresql-15-lazydfa"
     finish postgresql-15-lazydfa database "libc6, postgresql-15" "regular expressions by a lazy DFA for PostgreSQL" <<END
-Operators and functions that search texts for many patterns in one pass.
+Operators and functions that search texts for many patterns in one pass. The
+code needs a processor of the level x86-64-v2.
 END
 }
 
@@ -115,7 +123,7 @@ staged=$room/staged
 install_library "$staged" "$libdir"
 package_library
 package_development
-if [ -d "$room/lgrep" ]; then package_program; fi
+if [ -d "${folder:-}" ]; then package_program; fi
 if [ -f "$(pg_config --pgxs 2>/dev/null)" ] && [ "$(pg_config --version | sed 's/[^0-9]*\([0-9]*\).*/\1/')" = 15 ]; then
     package_extension
 else

@@ -92,8 +92,10 @@ use_python() {
 }
 
 use_program() {
-    dpkg -i ./lgrep*.deb >/dev/null
     printf 'a lazy dog\nan eager one\n' >lines
+    tar -xf lgrep-*-linux.tar.gz
+    prints "lgrep of the tarball" "1:a lazy dog" "$(echo lgrep-*/)lgrep" -n 'la\w+ ' lines
+    dpkg -i ./lgrep*.deb >/dev/null
     prints "lgrep" "1:a lazy dog" lgrep -n 'la\w+ ' lines
     prints "the manual of lgrep" "" test -s /usr/share/man/man1/lgrep.1.gz
     prints "the completion of lgrep" "--include" bash -c '. /usr/share/bash-completion/completions/lgrep

@@ -4,15 +4,16 @@
     memory.py
 
 Hundreds of patterns, one after another, each over a text of 900 kB: with several settings of `lazydfa.cache_size`, for
-searches for an end, for starts too, for sets, and for searches that are cancelled. After each search malloc must have
-given out at most 1.1 times what lazydfa_stats reports, and at least a tenth of it. This must be within the limit,
-except for the memory of a single pattern, or of a search that was cancelled, which may exceed the limit until the next
-search. psql finds the server by its environment; the server has the function held() of held.c.
+searches for an end, for starts too, for groups, for sets, and for searches that are cancelled. After each search malloc
+must have given out at most 1.1 times what lazydfa_stats reports, and at least a tenth of it. This must be within the
+limit, except for the memory of a single pattern, or of a search that was cancelled, which may exceed the limit until
+the next search. psql finds the server by its environment; the server has the function held() of held.c.
 """
 import subprocess
 import sys
 
 CANCELLED = "pg_temp.cancelled(value, '(a|b)*a(a|b){14}c|' || pattern)"
+MANY_GROUPS = "lazydfa_replace(left(value, 1000), '(' || pattern || repeat('(x)?', 100) || ')', '\\2', 'g') = ''"
 ALIKE = [f"[ab]{{{8 + at % 5}}}c|[ab]{{{9 + at % 3}}}x{at}" for at in range(300)]
 VARIOUS = ["(a|b)*a(a|b){6}c", "[0-9]{4}-[0-9]{2}-[0-9]{2}", r"(?-u:\b)[0-9]+(?-u:\b)", "[ab]{10}c|[ab]{9}d"]
 VARIOUS += ["[a-q][^u-z]{5}x", "foo|bar|baz|quux", "[a-z]+", '"[^"]*"', "(?i)sherlock|holmes|watson", "a.{8}b"]
@@ -26,6 +27,9 @@ CASES = [
     (65536, "value =~ pattern", ALIKE),
     (1024, "lazydfa_count(value, pattern) > 0", ALIKE[:60]),
     (1024, "lazydfa_which(value, array[pattern, 'b{20}']) <> '{}'", ALIKE[:60]),
+    (65536, "lazydfa_captures(left(mixed, 1000), '((x)?' || pattern || ')(y)?') <> '{}'", VARIOUS),
+    (4096, "lazydfa_captures(left(value, 1000), '((x)?' || pattern || ')(y)?') IS NULL", ALIKE[:60]),
+    (65536, MANY_GROUPS, ALIKE[:60]),
     (4096, CANCELLED, ALIKE[:30]),
     # A match of a byte, after which the search reads on, and DFA states of thousands of NFA states
     (65536, "lazydfa_substr(left(value, 16384), 'a(?:[ab]*a[ab]{14}c|' || pattern || ')?') <> ''", EACH),

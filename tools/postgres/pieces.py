@@ -23,7 +23,8 @@ CREATE FUNCTION pg_temp.answer(s text, p text) RETURNS text LANGUAGE plpgsql AS 
 DECLARE why text; said text;
 BEGIN
     RETURN concat_ws(' ', s =~ p, s !=~ p, s =~* p, convert_to(s, 'UTF8') =~ p, lazydfa_find(s, p),
-        lazydfa_substr(s, p), lazydfa_count(s, p), lazydfa_replace(s, p, '<>'), array(SELECT lazydfa_matches(s, p)));
+        lazydfa_substr(s, p), lazydfa_count(s, p), lazydfa_replace(s, p, '<\&>', 'g'),
+        array(SELECT lazydfa_matches(s, p)), lazydfa_split(s, p));
 EXCEPTION WHEN OTHERS THEN
     GET STACKED DIAGNOSTICS why = MESSAGE_TEXT, said = PG_EXCEPTION_DETAIL;
     RETURN why || ' ' || said;
@@ -37,11 +38,21 @@ EXCEPTION WHEN OTHERS THEN
     GET STACKED DIAGNOSTICS why = MESSAGE_TEXT, said = PG_EXCEPTION_DETAIL;
     RETURN concat_ws(' ', begun, why, said);
 END $$;
+CREATE FUNCTION pg_temp.groups(s text, p text) RETURNS text LANGUAGE plpgsql AS $$
+BEGIN
+    RETURN concat_ws(' ', lazydfa_captures(s, p), lazydfa_captures(s, '(' || p || ')(.)?'),
+        lazydfa_replace(s, '(a)?(?:' || p || ')(.)?', '<\2\1>', 'g'));
+EXCEPTION WHEN program_limit_exceeded THEN
+    RETURN NULL; -- a match is too long for such short pieces
+WHEN OTHERS THEN
+    RETURN '';
+END $$;
 CREATE TEMP TABLE pairs(id serial, p text, s text);
 CREATE TEMP TABLE lists(id serial, p text[], s text);
 """
 COMPARED = r"""
-CREATE TEMP TABLE wanted AS SELECT id, p, s, pg_temp.answer(s, p) AS answer FROM pairs;
+CREATE TEMP TABLE wanted AS
+    SELECT id, p, s, pg_temp.answer(s, p) AS answer, pg_temp.groups(s, p) AS groups FROM pairs;
 CREATE TEMP TABLE wanted_of_lists AS SELECT id, p, s, pg_temp.answer(s, p) AS answer FROM lists;
 SELECT count(*), count(*) FILTER (WHERE answer ~ '^t'), count(*) FILTER (WHERE answer ~ 'cannot|invalid') FROM wanted;
 SELECT count(*), count(*) FILTER (WHERE answer ~ '^t'), count(*) FILTER (WHERE answer ~ '\{"') FROM wanted_of_lists;
@@ -49,6 +60,8 @@ SELECT count(*), count(*) FILTER (WHERE answer ~ '^t'), count(*) FILTER (WHERE a
 DIFFERING = r"""
 SET lazydfa.piece_size = {size};
 SELECT 'pieces of {size}', p, s, answer, pg_temp.answer(s, p) FROM wanted WHERE answer <> pg_temp.answer(s, p) LIMIT 5;
+SELECT 'groups, pieces of {size}', p, s, groups, pg_temp.groups(s, p) FROM wanted WHERE groups <> pg_temp.groups(s, p)
+    LIMIT 5;
 SELECT 'pieces of {size}', p, s, answer, pg_temp.answer(s, p) FROM wanted_of_lists WHERE answer <> pg_temp.answer(s, p)
     LIMIT 5;
 """

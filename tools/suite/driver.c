@@ -67,6 +67,7 @@ static void read_work(const char *path) {
     work.length = lengths;
     work.unicode = strchr(flags, 'u') != NULL;
     work.set = strchr(flags, 's') != NULL;
+    work.groups = strncmp(done, "groups", 6) == 0;
     snprintf(own, sizeof own, "%.*s/../texts/%s", (int)(slash - path), path, name);
     text = contents(own, &length);
 }
@@ -75,13 +76,16 @@ static int is_new_each_time(void) {
     return !strcmp(done, "compile") || !strcmp(done, "first");
 }
 
+/* Asks for which patterns match in each line, whether there is a match, or for the groups of matches. */
 static struct total by_lines(void *engine) {
     struct total total = {0, 0};
     const uint8_t *end = text + length, *stop;
     for (const uint8_t *at = text; at < end; at = stop + 1) {
         stop = memchr(at, '\n', (size_t)(end - at));
         if (!stop) stop = end;
-        if (work.set) {
+        if (work.groups) {
+            failed |= engine_groups(engine, at, (size_t)(stop - at), &total) != 0;
+        } else if (work.set) {
             failed |= engine_which(engine, at, (size_t)(stop - at), &total) != 0;
         } else {
             int is = engine_is_match(engine, at, (size_t)(stop - at));
@@ -107,6 +111,8 @@ static __attribute__((noinline)) void run(void *engine) {
         engine_free(fresh);
     } else if (!strcmp(done, "count")) {
         failed |= engine_all(engine, text, length, &total) != 0;
+    } else if (!strcmp(done, "groups")) {
+        failed |= engine_groups(engine, text, length, &total) != 0;
     } else {
         total = by_lines(engine);
     }

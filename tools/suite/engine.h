@@ -13,9 +13,11 @@ struct work {
     const size_t *length;
     int unicode; /* otherwise bytes, and ASCII classes */
     int set;     /* which patterns match, not where */
+    int groups;  /* the groups of each match are asked for */
 };
 
-/* Matches, or pairs of a line and a pattern; and the bytes in matches, or the numbers of these patterns. */
+/* Matches, or pairs of a line and a pattern, or groups that took part in matches, group 0 included; and the bytes in
+   matches or groups, or the numbers of these patterns. */
 struct total {
     uint64_t count, sum;
 };
@@ -27,6 +29,8 @@ void *engine_new(const struct work *work);
 void engine_free(void *engine);
 /* Adds all matches, each leftmost and first by preference. It returns 0 unless it failed. */
 int engine_all(void *engine, const uint8_t *text, size_t length, struct total *total);
+/* Adds the groups of all matches. It returns 0 unless it failed. */
+int engine_groups(void *engine, const uint8_t *text, size_t length, struct total *total);
 /* Returns whether there is a match, and a negative number if it failed. */
 int engine_is_match(void *engine, const uint8_t *text, size_t length);
 /* Adds the patterns that match. It returns 0 unless it failed. */

@@ -5,9 +5,10 @@ fortunes-zh and from Python's own library:
     works.py FOLDER
 
 A work is a file of FOLDER/works: a line with what is done, flags and a text, and then one pattern in each line. What is
-done is `count` (all spans), `grep` (which lines match), `which` (which patterns match in each line), `compile`, or
-`first` (compile, and search one text). The flags are `u`, Unicode, or `b`, bytes, and `s`, a set. NAME@ENGINE is what an
-engine takes in place of NAME. Most works are modelled on those of the benchmark suite rebar.
+done is `count` (all spans), `groups` (all spans and their groups), `groups-grep` (the same for each line), `grep`
+(which lines match), `which` (which patterns match in each line), `compile`, or `first` (compile, and search one text).
+The flags are `u`, Unicode, or `b`, bytes, and `s`, a set. NAME@ENGINE is what an engine takes in place of NAME. Most
+works are modelled on those of the benchmark suite rebar.
 """
 import glob
 import gzip
@@ -200,6 +201,10 @@ def works_of(words):
         ("bounded.compile-capitals", "compile", "b", "line", r"(?:[A-Z][a-z]+\s*){10,100}"),
         ("tojson.grep", "grep", "b", "log", LOG_LINE),
         ("tojson.spans", "count", "b", "log", f"(?m){LOG_LINE}"),
+        ("captures.log", "groups", "b", "log", f"(?m){LOG_LINE}"),
+        ("captures.log-lines", "groups-grep", "b", "log", LOG_LINE),
+        ("captures.ucd", "groups", "b", "ucd", UCD_LINE),
+        ("captures.pair", "groups", "b", "log", r"([a-z]+)=([^ \n]+)"),
         ("dictionary.one", "count", "b", "en", "|".join(rare)),
         ("dictionary.one-i", "count", "b", "en", "(?i)" + "|".join(rare)),
         ("dictionary.which", "which", "bs", "en", *rare),

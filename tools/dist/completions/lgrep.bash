@@ -16,6 +16,7 @@ _lgrep() {
         --binary-files) mapfile -t COMPREPLY < <(compgen -W "binary text without-match" -- "$value") ;;
         --color | --colour) mapfile -t COMPREPLY < <(compgen -W "auto never" -- "$value") ;;
         -f | --file) mapfile -t COMPREPLY < <(compgen -f -- "$value") ;;
+        -A | --after-context | -B | --before-context | -C | --context) ;;
         -e | --regexp | -m | --max-count | --include | --exclude | --exclude-dir | --cache) ;;
         *)
             if [[ $current == -* ]]; then
@@ -28,8 +29,9 @@ _lgrep() {
 }
 
 _lgrep_flags="-e --regexp -f --file -F --fixed-strings -E --extended-regexp -P --perl-regexp -i -y --ignore-case
-    --no-ignore-case -w --word-regexp -x --line-regexp -v --invert-match -m --max-count -c --count -l
-    --files-with-matches -L --files-without-match -q --quiet --silent -o --only-matching --which -n --line-number -H
+    --no-ignore-case -w --word-regexp -x --line-regexp -v --invert-match -m --max-count -z --null-data
+    -A --after-context -B --before-context -C --context -c --count -l --files-with-matches -L --files-without-match
+    -q --quiet --silent -o --only-matching --which -n --line-number -b --byte-offset -T --initial-tab -H
     --with-filename -h --no-filename -Z --null -s --no-messages --color --stats --help -V --version -r -R --recursive
     --dereference-recursive --include --exclude --exclude-dir -a --text -I --binary-files --cache -U --binary
     --line-buffered"

@@ -44,7 +44,7 @@ void *engine_new(const struct work *work) {
         free(it);
         return NULL;
     }
-    it->data = pcre2_match_data_create(1, NULL);
+    it->data = work->groups ? pcre2_match_data_create_from_pattern(it->code, NULL) : pcre2_match_data_create(1, NULL);
     it->context = pcre2_match_context_create(NULL);
     it->stack = pcre2_jit_stack_create(32 << 10, 8 << 20, NULL);
     pcre2_jit_stack_assign(it->context, NULL, it->stack);
@@ -71,6 +71,25 @@ int engine_all(void *engine, const uint8_t *text, size_t length, struct total *t
         if (span[0] != span[1] || span[0] != last) {
             total->count++;
             total->sum += span[1] - span[0];
+        }
+        last = span[1];
+        at = span[0] == span[1] ? span[1] + 1 : span[1];
+    }
+    return 0;
+}
+
+int engine_groups(void *engine, const uint8_t *text, size_t length, struct total *total) {
+    struct engine *it = engine;
+    size_t at = 0, last = (size_t)-1;
+    while (at <= length) {
+        int found = pcre2_jit_match(it->code, text, length, at, PCRE2_NO_UTF_CHECK, it->data, it->context);
+        size_t *span = pcre2_get_ovector_pointer(it->data);
+        if (found == PCRE2_ERROR_NOMATCH) return 0;
+        if (found < 0) return 1;
+        for (int i = 0; i < found && (span[0] != span[1] || span[0] != last); i++) {
+            if (span[2 * i] == PCRE2_UNSET) continue;
+            total->count++;
+            total->sum += span[2 * i + 1] - span[2 * i];
         }
         last = span[1];
         at = span[0] == span[1] ? span[1] + 1 : span[1];

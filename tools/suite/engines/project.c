@@ -1,6 +1,6 @@
 /* The library for C, with its defaults. */
 #include "../engine.h"
-#include <lazydfa.h>
+#include <lazydfa_automata.h>
 #include <stdlib.h>
 #include <string.h>
 
@@ -13,6 +13,8 @@ struct engine {
     lazydfa_cache cache;
     size_t patterns;
     uint32_t *found;
+    lazydfa_span *groups;
+    size_t room;
 };
 
 void *engine_new(const struct work *work) {
@@ -23,6 +25,7 @@ void *engine_new(const struct work *work) {
     options.match_kind = work->set ? LAZYDFA_ALL : LAZYDFA_LEFTMOST_FIRST;
     options.nest_limit = 200;
     options.no_unicode = options.bytes = !work->unicode;
+    options.groups = (uint32_t)work->groups;
     for (size_t i = 0; i < work->patterns; i++) {
         texts[i].text = work->text[i];
         texts[i].length = work->length[i];
@@ -37,6 +40,11 @@ void *engine_new(const struct work *work) {
     }
     it->patterns = work->patterns;
     it->found = malloc(sizeof *it->found * work->patterns);
+    for (size_t i = 0, count = 0; work->groups && i < work->patterns; i++) {
+        lazydfa_group_count(&it->regex, (uint32_t)i, &count);
+        if (count > it->room) it->room = count;
+    }
+    it->groups = malloc(sizeof *it->groups * (it->room + 1));
     return it;
 }
 
@@ -45,6 +53,7 @@ void engine_free(void *engine) {
     lazydfa_cache_close(&it->cache);
     lazydfa_regex_close(&it->regex);
     free(it->found);
+    free(it->groups);
     free(it);
 }
 
@@ -59,6 +68,26 @@ int engine_all(void *engine, const uint8_t *text, size_t length, struct total *t
         for (size_t i = 0; i < count; i++) {
             total->count++;
             total->sum += found[i].end - found[i].start;
+        }
+    } while (status.code == LAZYDFA_OK);
+    return status.code != LAZYDFA_NONE;
+}
+
+int engine_groups(void *engine, const uint8_t *text, size_t length, struct total *total) {
+    static lazydfa_match found[BATCH];
+    struct engine *it = engine;
+    lazydfa_iteration at = lazydfa_iterate(lazydfa_whole(length));
+    lazydfa_status status;
+    do {
+        size_t count, groups;
+        status = lazydfa_next_all(&it->cache, text, length, &at, found, BATCH, &count);
+        for (size_t i = 0; i < count; i++) {
+            if (lazydfa_groups(&it->cache, text, length, &found[i], it->groups, it->room, &groups).code) return 1;
+            for (size_t k = 0; k < groups; k++) {
+                if (it->groups[k].start == LAZYDFA_NO_OFFSET) continue;
+                total->count++;
+                total->sum += it->groups[k].end - it->groups[k].start;
+            }
         }
     } while (status.code == LAZYDFA_OK);
     return status.code != LAZYDFA_NONE;

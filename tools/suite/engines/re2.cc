@@ -15,6 +15,7 @@ struct Engine {
     std::unique_ptr<re2::RE2> regex;
     std::unique_ptr<re2::RE2::Set> set;
     std::vector<int> found;
+    std::vector<re2::StringPiece> groups;
 };
 
 re2::StringPiece pattern(const work &work, size_t i) {
@@ -33,6 +34,7 @@ bool make_regex(Engine &it, const work &work, const re2::RE2::Options &options) 
     if (work.patterns > 1) all = "(?:" + all + ")";
     for (size_t i = 1; i < work.patterns; i++) all += "|(?:" + pattern(work, i).as_string() + ")";
     it.regex.reset(new re2::RE2(all, options));
+    if (it.regex->ok()) it.groups.resize(static_cast<size_t>(it.regex->NumberOfCapturingGroups()) + 1);
     return it.regex->ok();
 }
 
@@ -62,6 +64,26 @@ int engine_all(void *engine, const uint8_t *text, size_t length, struct total *t
         if (!found.empty() || from != last) {
             total->count++;
             total->sum += found.size();
+        }
+        last = to;
+        at = found.empty() ? to + 1 : to;
+    }
+    return 0;
+}
+
+int engine_groups(void *engine, const uint8_t *text, size_t length, struct total *total) {
+    Engine &it = *static_cast<Engine *>(engine);
+    const char *begin = reinterpret_cast<const char *>(text);
+    re2::StringPiece all(begin, length), &found = it.groups[0];
+    int number = static_cast<int>(it.groups.size());
+    size_t at = 0, last = static_cast<size_t>(-1);
+    while (at <= length && it.regex->Match(all, at, length, re2::RE2::UNANCHORED, it.groups.data(), number)) {
+        size_t from = static_cast<size_t>(found.data() - begin), to = from + found.size();
+        if (!found.empty() || from != last) {
+            for (const re2::StringPiece &group : it.groups) {
+                total->count += group.data() != nullptr;
+                total->sum += group.size();
+            }
         }
         last = to;
         at = found.empty() ? to + 1 : to;

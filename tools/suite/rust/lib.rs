@@ -12,6 +12,7 @@ pub struct Work {
     length: *const usize,
     unicode: c_int,
     set: c_int,
+    groups: c_int,
 }
 
 #[repr(C)]
@@ -82,6 +83,30 @@ pub unsafe extern "C" fn engine_all(engine: &Engine, text: *const u8, length: us
     for found in regex.find_iter(unsafe { slice::from_raw_parts(text, length) }) {
         total.count += 1;
         total.sum += (found.end() - found.start()) as u64;
+    }
+    0
+}
+
+#[unsafe(no_mangle)]
+pub unsafe extern "C" fn engine_groups(engine: &Engine, text: *const u8, length: usize, total: &mut Total) -> c_int {
+    let Engine::Regex(regex) = engine else {
+        return 1;
+    };
+    let text = unsafe { slice::from_raw_parts(text, length) };
+    let mut groups = regex.capture_locations();
+    let (mut at, mut last) = (0, None);
+    while at <= length {
+        let Some(found) = regex.captures_read_at(&mut groups, text, at) else {
+            break;
+        };
+        if found.start() < found.end() || last != Some(found.end()) {
+            for (start, end) in (0..groups.len()).filter_map(|group| groups.get(group)) {
+                total.count += 1;
+                total.sum += (end - start) as u64;
+            }
+        }
+        last = Some(found.end());
+        at = if found.start() == found.end() { found.end() + 1 } else { found.end() };
     }
     0
 }
