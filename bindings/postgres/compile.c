@@ -15,8 +15,8 @@
 #define NEST_LIMIT 250
 
 /* For tables up to this size, pieces are as long as the setting says. With larger tables a byte can take proportionally
-   longer, and pieces are shorter: with tables of 10 MB a byte takes at most 14 ms, and a piece has 64 bytes. */
-#define SMALL_TABLES 40960
+   longer, and pieces are shorter: with tables of 10 MB a byte takes some 14 ms, and a piece has 16 bytes. */
+#define SMALL_TABLES 10240
 #define SHORTEST_PIECE 16
 
 /* The bytes that a cache takes for groups: of each state some, and more for each group. A state takes at least
