@@ -77,26 +77,11 @@ enum lazydfa_code {
     LAZYDFA_MEMORY = 6,          /* an allocation failed */
     LAZYDFA_STRUCT_SIZE = 7,     /* the library does not know the size of the options or of the error */
 
-    /* from a builder */
-    LAZYDFA_NO_PATTERN = 10,     /* no pattern was started, or the last one was finished */
-    LAZYDFA_UNFINISHED = 11,     /* the pattern that was started is not finished */
-    LAZYDFA_PATCH_RANGE = 12,    /* the state to be patched does not exist */
-    LAZYDFA_SPARSE_PATCH = 13,   /* a sparse state cannot be patched */
+    /* from building a regex; lazydfa_automata.h has those of builders */
     LAZYDFA_TOO_LARGE = 14,      /* too many states, patterns, groups or alternates, or a limit is exceeded */
-
-    /* from building a regex */
-    LAZYDFA_STATE_RANGE = 15,    /* a state leads to a state that does not exist */
-    LAZYDFA_START_RANGE = 16,    /* a start state does not exist */
-    LAZYDFA_PATTERN_RANGE = 17,  /* a match state has a pattern that does not exist */
-    LAZYDFA_RANGES = 18,         /* the ranges of bytes of a state are not in order */
-    LAZYDFA_NOT_LAZY = 20,       /* the unanchored start does not skip lazily; lazydfa_add_unanchored_prefix does */
-    LAZYDFA_NOT_UTF8 = 22,       /* in UTF-8 mode a match may be invalid UTF-8 */
-    LAZYDFA_STARTS = 23,         /* only some starts match the empty string: the NFA cannot be reversed */
     LAZYDFA_UNSUPPORTED = 24,    /* a Unicode word boundary, without the option for it */
     LAZYDFA_CAPACITY = 25,       /* the cache capacity is too small; the offset is a capacity that is enough */
     LAZYDFA_STATE_IDS = 26,      /* the smallest table is too large; the offset is the ID that does not fit */
-    LAZYDFA_PATTERN_COUNTS = 27, /* the two NFAs of a pair differ in their numbers of patterns */
-    LAZYDFA_ONE_START = 28,      /* both starts are one state, and always_anchored of the options is 0 */
 
     /* from a search */
     LAZYDFA_QUIT = 30,           /* the search read a quit byte, at the offset */
@@ -104,10 +89,6 @@ enum lazydfa_code {
     LAZYDFA_ANCHORED = 32,       /* the regex was not built for this anchored mode */
     LAZYDFA_NOT_A_PAIR = 33,     /* the second NFA of a pair finds no start for a match of the first */
     LAZYDFA_NO_TOKEN = 34,       /* no pattern matches at the offset, or only with the empty string */
-
-    /* from a search or a walk in pieces */
-    LAZYDFA_SKIPS = 35,          /* the regex is in UTF-8 mode, and matches the empty string if all its looks hold */
-    LAZYDFA_NOT_BEGUN = 36,      /* no search or walk in pieces was begun over the cache */
 
     /* from a call for groups */
     LAZYDFA_NO_GROUPS = 37,      /* the regex was not built from texts with the option `groups` */
@@ -368,6 +349,18 @@ lazydfa_status lazydfa_next_all(lazydfa_cache *cache, const uint8_t *haystack, s
    pattern matches. Build the regex with LAZYDFA_ALL. The call allocates `below` bytes, and keeps them for the next. */
 lazydfa_status lazydfa_which(lazydfa_cache *cache, const uint8_t *haystack, size_t length, const lazydfa_input *input,
                              size_t below, uint32_t *patterns, size_t room, size_t *count);
+
+/* ---- Tokens ---- */
+
+/* Writes the token at the start of the span: the match that begins there and is not empty. The start of the span then
+   moves to the token's end. LAZYDFA_NONE at the end of the span; LAZYDFA_NO_TOKEN where no token begins. The anchored
+   mode and `earliest` are ignored. */
+lazydfa_status lazydfa_token(lazydfa_cache *cache, const uint8_t *haystack, size_t length, lazydfa_input *left,
+                             lazydfa_match *found);
+
+/* Writes the next tokens, as many as there is room for, and their number, as lazydfa_next_all does for matches. */
+lazydfa_status lazydfa_tokens(lazydfa_cache *cache, const uint8_t *haystack, size_t length, lazydfa_input *left,
+                              lazydfa_match *found, size_t room, size_t *count);
 
 /* ---- Groups ----
  *

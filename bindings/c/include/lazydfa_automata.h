@@ -1,5 +1,5 @@
-/* The calls beside those of lazydfa.h: for names of groups, sizes and tokens, for engines that build NFAs themselves,
-   for haystacks in pieces, for overlapping matches, for backward searches, and for what all matches of a pattern have
+/* The calls beside those of lazydfa.h: for names of groups and sizes, for engines that build NFAs themselves, for
+   haystacks in pieces, for overlapping matches, for backward searches, and for what all matches of a pattern have
    in common. The head of lazydfa.h has the rules that a program keeps, and the codes that are common to all calls. */
 #ifndef LAZYDFA_AUTOMATA_H
 #define LAZYDFA_AUTOMATA_H
@@ -9,6 +9,32 @@
 #ifdef __cplusplus
 extern "C" {
 #endif
+
+/* ---- Codes ---- */
+
+/* The codes of these calls, beside those of enum lazydfa_code. */
+enum lazydfa_automata_code {
+    /* from a builder */
+    LAZYDFA_NO_PATTERN = 10,     /* no pattern was started, or the last one was finished */
+    LAZYDFA_UNFINISHED = 11,     /* the pattern that was started is not finished */
+    LAZYDFA_PATCH_RANGE = 12,    /* the state to be patched does not exist */
+    LAZYDFA_SPARSE_PATCH = 13,   /* a sparse state cannot be patched */
+
+    /* from building a regex */
+    LAZYDFA_STATE_RANGE = 15,    /* a state leads to a state that does not exist */
+    LAZYDFA_START_RANGE = 16,    /* a start state does not exist */
+    LAZYDFA_PATTERN_RANGE = 17,  /* a match state has a pattern that does not exist */
+    LAZYDFA_RANGES = 18,         /* the ranges of bytes of a state are not in order */
+    LAZYDFA_NOT_LAZY = 20,       /* the unanchored start does not skip lazily; lazydfa_add_unanchored_prefix does */
+    LAZYDFA_NOT_UTF8 = 22,       /* in UTF-8 mode a match may be invalid UTF-8 */
+    LAZYDFA_STARTS = 23,         /* only some starts match the empty string: the NFA cannot be reversed */
+    LAZYDFA_PATTERN_COUNTS = 27, /* the two NFAs of a pair differ in their numbers of patterns */
+    LAZYDFA_ONE_START = 28,      /* both starts are one state, and always_anchored of the options is 0 */
+
+    /* from a search or a walk in pieces */
+    LAZYDFA_SKIPS = 35,          /* the regex is in UTF-8 mode, and matches the empty string if all its looks hold */
+    LAZYDFA_NOT_BEGUN = 36       /* no search or walk in pieces was begun over the cache */
+};
 
 /* ---- Names of groups ----
  *
@@ -45,18 +71,6 @@ typedef struct {
 
 /* Writes how much memory a cache holds, how often it was cleared, and how many patterns its regex has. */
 lazydfa_status lazydfa_cache_usage(lazydfa_cache *cache, lazydfa_usage *usage);
-
-/* ---- Tokens ---- */
-
-/* Writes the token at the start of the span: the match that begins there and is not empty. The start of the span then
-   moves to the token's end. LAZYDFA_NONE at the end of the span; LAZYDFA_NO_TOKEN where no token begins. The anchored
-   mode and `earliest` are ignored. */
-lazydfa_status lazydfa_token(lazydfa_cache *cache, const uint8_t *haystack, size_t length, lazydfa_input *left,
-                             lazydfa_match *found);
-
-/* Writes the next tokens, as many as there is room for, and their number, as lazydfa_next_all does for matches. */
-lazydfa_status lazydfa_tokens(lazydfa_cache *cache, const uint8_t *haystack, size_t length, lazydfa_input *left,
-                              lazydfa_match *found, size_t room, size_t *count);
 
 /* ---- Builders ----
  *
