@@ -49,8 +49,7 @@ module _ (d : Engine) (hay : List ℕ) (offset : ℕ) (fits : offset ≤ length 
       (half : Half) → IsAnswer Forward d input (Some half)
       → (pair : Pair) × Selected (Some pair) × (half.pattern ≡ pair.pattern) × (half.offset ≡ offset + pair.place)
   answer_some half (k, tries, has) =
-      let e = first_span k tries.comes in
-      (
+      let e = first_span k tries.comes in (
         has.pair,
         at_first (offset + k) (Some has.pair) e has.reported,
         has.pattern,

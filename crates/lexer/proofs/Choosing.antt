@@ -144,8 +144,7 @@ module _ (ks : List kit_nfa.Nfa) (res : List Re) (is : ImplementAll ks res) (hay
           → (rule : ℕ) × (half.pattern ≡ suc p + rule) × IsFirstRule res2 hay offset rule half.offset)
           → (rule : ℕ) × (half.pattern ≡ p + rule) × IsFirstRule (re ∷ res2) hay offset rule half.offset
       go (Some trace) here f rest =
-          let h : half_of p trace ≡ half = some_inj f in
-          (
+          let h : half_of p trace ≡ half = some_inj f in (
             0,
             sym (ap (λ (v : HalfMatch). v.pattern) h) ∙ omega arith,
             record {
@@ -154,8 +153,7 @@ module _ (ks : List kit_nfa.Nfa) (res : List Re) (is : ImplementAll ks res) (hay
             },
           )
       go None here f rest =
-          let w = rest f in
-          (
+          let w = rest f in (
             suc w.0,
             (let n = w.1 in omega (arith, n)),
             record {

@@ -76,8 +76,7 @@ module _ (m : Machine) (o : Options) (prefer : Prefer) (res : List Re) (is : IsL
       (found : Option HalfMatch) → AcyclicKeepsCycles → IsHalf Forward m (remaining_input hay offset) (Ok found)
       → WithoutBase (IsAnswer Forward d (remaining_input hay offset)) found
   answered found law h =
-      let a = h.answer (law (nfa_of m.nfa) made.acyclic) in
-      (
+      let a = h.answer (law (nfa_of m.nfa) made.acyclic) in (
         a.0,
         subst (λ e. IsAnswer Forward e (remaining_input hay offset) a.0) alike
             (((made.answers.alike kind).searches.answer Forward (remaining_input hay offset) a.0 bytes).1

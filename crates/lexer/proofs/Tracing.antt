@@ -54,22 +54,37 @@ module _ (n : Nfa) (b pat : ℕ) (k : kit_nfa.Nfa) (holds : HasStatesOf n b pat 
       → hop_at (node_of b pat k.transitions.items x) (truth n t i) e ≡ Some r → Goes i q r
   goes i q e r inside (kit.ByteRange u) is h = absurd (none_some h)
   goes i q e r inside (kit.Sparse from to) is h = absurd (none_some h)
-  goes i q zero r inside (kit.Split first second) is h =
-      (first, sym (some_inj h), within n b pat k holds hay s (length hay) (omega arith) same first q
-      (sound_of k q _ is).0, by_first second is)
-  goes i q (suc zero) r inside (kit.Split first second) is h =
-      (second, sym (some_inj h), within n b pat k holds hay s (length hay) (omega arith) same second q
-      (sound_of k q _ is).1, by_second first is)
+  goes i q zero r inside (kit.Split first second) is h = (
+    first,
+    sym (some_inj h),
+    within n b pat k holds hay s (length hay) (omega arith) same first q
+        (sound_of k q _ is).0,
+    by_first second is,
+  )
+  goes i q (suc zero) r inside (kit.Split first second) is h = (
+    second,
+    sym (some_inj h),
+    within n b pat k holds hay s (length hay) (omega arith) same second q
+        (sound_of k q _ is).1,
+    by_second first is,
+  )
   goes i q (suc (suc e)) r inside (kit.Split first second) is h = absurd (none_some h)
-  goes i q zero r inside (kit.Save slot next) is h =
-      (next, sym (some_inj h), within n b pat k holds hay s (length hay) (omega arith) same next q
-      (sound_of k q _ is).1, by_save slot is)
+  goes i q zero r inside (kit.Save slot next) is h = (
+    next,
+    sym (some_inj h),
+    within n b pat k holds hay s (length hay) (omega arith) same next q
+        (sound_of k q _ is).1,
+    by_save slot is,
+  )
   goes i q (suc e) r inside (kit.Save slot next) is h = absurd (none_some h)
   goes i q zero r inside (kit.Look l next) is h =
-      let w = holds_then _ (b + next) r h in
-      (next, w.1, within n b pat k holds hay s (length hay) (omega arith) same next q (sound_of k q _ is),
-      by_look l is
-      (sym (truth_is n b pat k holds hay s (length hay) (omega arith) same q next l is i (s + i) refl inside) ∙ w.0))
+      let w = holds_then _ (b + next) r h in (
+        next,
+        w.1,
+        within n b pat k holds hay s (length hay) (omega arith) same next q (sound_of k q _ is),
+        by_look l is
+            (sym (truth_is n b pat k holds hay s (length hay) (omega arith) same q next l is i (s + i) refl inside) ∙ w.0),
+      )
   goes i q (suc e) r inside (kit.Look l next) is h = absurd (none_some h)
   goes i q e r inside kit.Match is h = absurd (none_some h)
   goes i q e r inside kit.Fail is h = absurd (none_some h)
@@ -113,8 +128,7 @@ module _ (n : Nfa) (b pat : ℕ) (k : kit_nfa.Nfa) (holds : HasStatesOf n b pat 
       let rest =
       traced (suc i) [] step.0 path j z pattern (omega (arith, below))
       (let low = next_on_within k q moves.0 step.0 step.1 in omega (arith, low))
-      (subst (λ v. IsPathFrom n t (suc i) [] v path j z) step.2 on) acc in
-      (
+      (subst (λ v. IsPathFrom n t (suc i) [] v path j z) step.2 on) acc in (
         rest.0,
         consumed q (s + i) step.0 (moves.0, here, step.1)
             (subst (λ v. Accepts k hay (length hay) (s + j) step.0 v) (omega arith) rest.1),
@@ -160,8 +174,7 @@ module _ (ks : List kit_nfa.Nfa) (res : List Re) (is : ImplementAll ks res) (hay
       from_start (joined_nfa ks) hay s (size_of ks) place inside 0 0 ks res (holds_all ks) is same e r
       (sym (ap (λ v. hop_at v (truth (joined_nfa ks) (forward_tape hay s (length hay)) place) e) (union_is ks)) ∙ hops)
       path j z pattern on acc in
-      let number : e ≡ pattern = let f = own.0 in omega (arith, f) in
-      (
+      let number : e ≡ pattern = let f = own.0 in omega (arith, f) in (
         (path, ap (λ v. v ∷ path) number),
         λ exact. subst (λ v. RuleMatches res hay v (s + place) (s + j)) number (own.1 exact),
       )

@@ -1,4 +1,4 @@
 pub mod Rules
-pub mod Tokens
 pub mod Lexers
-
+pub mod Tokens
+pub mod Iteration

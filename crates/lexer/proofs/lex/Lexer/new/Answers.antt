@@ -1,4 +1,3 @@
-use Rattle.std.proofs.Common.{inl}
 use Rattle.lexer.proofs.Building.{lexer_is}
 use Rattle.lexer.proofs.lex.Lexer.new.Goals as goal
 
