@@ -1,7 +1,6 @@
 -- What the paths of the joined NFA select at an offset, by what the patterns mean.
-use Rattle.std.proofs.Common.{ℕ, zero, suc, ◌≡◌, ◌+◌, ◌<◌, ◌≤◌, List, [], ◌∷◌, Option, Some, None, Bool, true, false}
+use Rattle.std.proofs.Common.{ℕ, zero, suc, ◌≡◌, ◌+◌, ◌<◌, ◌≤◌, List, [], ◌∷◌, Option, Some, None, true, false}
 use Rattle.std.proofs.Common.{IsUtf8, length, option_map, refl, sym, ap, ◌∙◌, subst, ⊎_elim, arith, true≢false}
-use Rattle.std.specs.Prelude.{slice_get}
 use Rattle.std.specs.Option.{option_or}
 use Rattle.std.proofs.lemmas.Bool.{cases_lt}
 use Rattle.regex_hir.specs.Matches.{Matches}
@@ -24,9 +23,9 @@ use Rattle.automata_base.proofs.Paths.Orders.{none_some, some_inj}
 use Rattle.automata_base.proofs.Paths.Searches.{path_inside}
 use Rattle.automata_base.proofs.Paths.Unique.{upto_both}
 use Rattle.meaning.specs.Agreeing.{Each, HasSameLooks, ImplementAll, IsLeastEnd}
-use Rattle.meaning.specs.Translated.{joined_engine, joined_nfa, size_of}
+use Rattle.meaning.specs.Translated.{joined_nfa, size_of}
 use Rattle.meaning.proofs.Options.{half_of}
-use Rattle.meaning.proofs.Singles.{IsUnionPath, MatchesAt, union_matches, union_way}
+use Rattle.meaning.proofs.Singles.{MatchesAt, union_matches, union_way}
 use Rattle.meaning.proofs.Texts.{whole_path}
 use Rattle.meaning.proofs.Unions.{found_of, union_finds}
 use Rattle.lexer.specs.Rules.{AreExact, IsFirstRule, IsLongestRule, RuleMatches, RulePrefers}

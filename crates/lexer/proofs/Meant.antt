@@ -1,22 +1,19 @@
 -- The token at an offset, by what the patterns of the rules mean.
-use Rattle.std.proofs.Common.{ℕ, ◌≡◌, ◌+◌, ◌<◌, ◌≤◌, ◌⊎◌, List, Option, Some, None, Bool, true, false, IsUtf8, length}
-use Rattle.std.proofs.Common.{option_map, refl, sym, ap, ◌∙◌, subst, ⊎_elim, inl, inr, arith}
+use Rattle.std.proofs.Common.{ℕ, ◌≡◌, ◌+◌, ◌≤◌, List, Option, Some, None, Bool, true, false, length}
+use Rattle.std.proofs.Common.{option_map, refl, sym, ap, subst, ⊎_elim, arith}
 use Rattle.std.specs.Prelude.{IfSome, Ok, nat_lt, if◌then◌else◌}
-use Rattle.std.proofs.lemmas.Bool.{cases_Bool, ltb-true, ltb-false}
-use Rattle.std.proofs.lemmas.Option.{none-some, same_Some}
+use Rattle.std.proofs.lemmas.Bool.{ltb-true, ltb-false}
 use Rattle.regex_hir.specs.Re.{Re}
 use Rattle.automata_base.specs.Answers.Answers.{Half, IsAnswer}
 use Rattle.automata_base.specs.Answers.TruePairs.{KeepsUtf8}
 use Rattle.automata_base.specs.Haystacks.Matches.{HalfMatch, Match}
-use Rattle.automata_base.specs.Haystacks.Tapes.{IsHaystack, is_split}
+use Rattle.automata_base.specs.Haystacks.Tapes.{IsHaystack}
 use Rattle.automata_base.specs.Laws.KeptUnions.{AcyclicKeepsCycles}
 use Rattle.automata_base.specs.Nfas.Engines.{Engine, engine_of}
-use Rattle.automata_base.specs.Paths.Paths.{KeepsCycles}
-use Rattle.automata_base.specs.Paths.Selections.{Pair, Selects}
 use Rattle.automata_base.specs.declared.util.search.MatchKind.{MatchKind}
-use Rattle.automata_base.specs.declared.util.search.MatchKind.TheVariants.{All as KindAll, LeftmostFirst}
+use Rattle.automata_base.specs.declared.util.search.MatchKind.TheVariants.{All as KindAll}
 use Rattle.automata_hybrid.specs.Searches.Passes.{WithoutBase, without_base}
-use Rattle.regex_automata.specs.Promises.{Forward, IsHalf, Machine, match_kind_of, nfa_of}
+use Rattle.regex_automata.specs.Promises.{Forward, IsHalf, Machine, nfa_of}
 use Rattle.meaning.specs.Agreeing.{Each, HasSameLooks}
 use Rattle.meaning.specs.Translated.{joined_engine}
 use Rattle.patterns.specs.Patterns.{IsFor, IsJoinedNfa}

@@ -1,10 +1,7 @@
 -- A path of the joined NFA from the union of the starts is a path of the NFA of one pattern, to the same end.
-use Rattle.std.proofs.Common.{ℕ, zero, suc, ◌≡◌, ◌+◌, ◌<◌, ◌≤◌, ◌⊎◌, List, [], ◌∷◌, Option, Some, None, length, option_map}
-use Rattle.std.proofs.Common.{Bool, true, false, cond, inl, inr, refl, sym, ap, ◌∙◌, subst, ⊎_elim, arith}
+use Rattle.std.proofs.Common.{ℕ, zero, suc, ◌≡◌, ◌+◌, ◌<◌, ◌≤◌, List, [], ◌∷◌, Option, Some, None, length, option_map}
+use Rattle.std.proofs.Common.{Bool, true, false, cond, inl, inr, refl, sym, ap, ◌∙◌, subst, arith}
 use Rattle.std.specs.Prelude.{slice_get}
-use Rattle.std.proofs.lemmas.Bool.{cases_Bool}
-use Rattle.regex_hir.specs.Looks as kit_looks
-use Rattle.regex_hir.specs.Matches.{Matches}
 use Rattle.regex_hir.specs.Re.{Re}
 use Rattle.regex_nfa.specs.Paths.{Accepts, EmptyEdge, by_first, by_second, by_save, by_look, consumed, matched, skipped}
 use Rattle.regex_nfa.specs.Run.{state_of}
@@ -14,8 +11,8 @@ use Rattle.regex_nfa.specs.declared.state.State.TheVariants as kit
 use Rattle.regex_nfa.specs.declared.nfa.Nfa as kit_nfa
 use Rattle.regex_nfa.proofs.RunLemmas.{byte_below_some, next_on_within, sound_of}
 use Rattle.automata_base.specs.Haystacks.Tapes.{forward_tape}
-use Rattle.automata_base.specs.Nfas.Nfa.{Nfa, accepts, accepts_at, hop, hop_at}
-use Rattle.automata_base.specs.Paths.Order.{Upto, EndsFirst, TakesLess, TakesSame}
+use Rattle.automata_base.specs.Nfas.Nfa.{Nfa, accepts, accepts_at, hop_at}
+use Rattle.automata_base.specs.Paths.Order.{Upto, TakesLess, TakesSame}
 use Rattle.automata_base.specs.Paths.Paths.{IsPathFrom, Tape, truth}
 use Rattle.automata_base.specs.Paths.Paths.{StaysHere, ReadsByte}
 use Rattle.automata_base.proofs.Paths.Orders.{cons_head, none_some, some_inj}

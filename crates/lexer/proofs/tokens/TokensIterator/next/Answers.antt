@@ -65,7 +65,7 @@ returns-in-Ok-None-2-clause-steps c =
         c.if-self-2.false,
         record {
           place = refl;
-          meant = subst (IsMeantToken m hay s.offset) c.in-Ok-None-2.field-0-is c.in-Ok-None-2.ensures.meant;
+          meant = subst (IsMeantToken m hay s.offset) c.in-Ok-None.field-0-is c.in-Ok-None.ensures.meant;
           passes = subst (λ b. PassesGap b m hay s.offset s.offset true) (sym c.if-self-3.false) (refl, refl);
         },
       ),
@@ -73,5 +73,5 @@ returns-in-Ok-None-2-clause-steps c =
       refl,
       refl,
       refl,
-      c.in-Ok-None-2.ensures.effect,
+      c.in-Ok-None.ensures.effect,
     )
