@@ -6,6 +6,8 @@
 
 mod lex;
 mod rules;
+#[cfg(test)]
+mod tests;
 mod tokens;
 
 pub use lex::Lexer;
