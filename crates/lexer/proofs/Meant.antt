@@ -30,8 +30,8 @@ use Rattle.lexer.proofs.Choosing.{split_is_empty}
 
 -- where the answer of a search lies
 pub token_lies :
-    (m : Machine) (hay : List ℕ) (offset : ℕ) (o : Option HalfMatch) → IsHalf Forward m (remaining_input hay offset) (Ok o)
-    → IfSome (token_of offset o) (IsTokenFrom m hay offset)
+    (m : Machine) (hay : List ℕ) (offset : ℕ) (o : Option HalfMatch)
+    → IsHalf Forward m (remaining_input hay offset) (Ok o) → IfSome (token_of offset o) (IsTokenFrom m hay offset)
 token_lies m hay offset None h = tt
 token_lies m hay offset (Some half) h = go (nat_lt offset half.offset) refl where
   go :
@@ -103,7 +103,8 @@ module _ (m : Machine) (o : Options) (res : List Re) (is : IsLexerOf o First res
       → (rule end : ℕ) → IsFirstRule res hay offset rule end → end ≡ offset
   no_first answer rule end own =
       ⊎_elim
-      (λ none. absurd (first_none is.joined.ks res is.joined.nfas.0 hay same_looks offset fits none rule end own.matches))
+      (λ none. absurd (first_none is.joined.ks res is.joined.nfas.0 hay same_looks offset fits none rule end
+      own.matches))
       (λ (w : SelectsSplit (d m o First res is hay for bytes offset fits) hay offset fits).
       let pair = w.1.0 in
       let empty =

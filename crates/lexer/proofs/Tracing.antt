@@ -80,7 +80,8 @@ module _ (n : Nfa) (b pat : ℕ) (k : kit_nfa.Nfa) (holds : HasStatesOf n b pat 
         w.1,
         within n b pat k holds hay s (length hay) (omega arith) same next q (sound_of k q _ is),
         by_look l is
-            (sym (truth_is n b pat k holds hay s (length hay) (omega arith) same q next l is i (s + i) refl inside) ∙ w.0),
+            (sym (truth_is n b pat k holds hay s (length hay) (omega arith) same q next l is i (s + i) refl inside)
+            ∙ w.0),
       )
   goes i q (suc e) r inside (kit.Look l next) is h = absurd (none_some h)
   goes i q e r inside kit.Match is h = absurd (none_some h)
@@ -161,7 +162,8 @@ module _ (ks : List kit_nfa.Nfa) (res : List Re) (is : ImplementAll ks res) (hay
       (path : List ℕ) (j z pattern : ℕ)
       → IsPathFrom (joined_nfa ks) (forward_tape hay s (length hay)) place [] (size_of ks) path j z
       → accepts (joined_nfa ks) z ≡ Some pattern
-      → ((rest : List ℕ) × (path ≡ pattern ∷ rest)) × (AreExact ks res → RuleMatches res hay pattern (s + place) (s + j))
+      → ((rest : List ℕ) × (path ≡ pattern ∷ rest))
+      × (AreExact ks res → RuleMatches res hay pattern (s + place) (s + j))
   from_union [] j z pattern h acc =
       absurd (accepts_none (joined_nfa ks) (forward_tape hay s (length hay)) place (size_of ks) _ (union_is ks) refl
       pattern

@@ -1,5 +1,6 @@
 -- The token at an offset: what a search returns, and what it means.
-use Rattle.std.specs.Prelude.{ℕ, ◌≡◌, ◌+◌, ◌<◌, ◌≤◌, Bool, true, false, nat_lt, if◌then◌else◌, List, length, Option, Some, None}
+use Rattle.std.specs.Prelude.{ℕ, ◌≡◌, ◌+◌, ◌<◌, ◌≤◌, Bool, true, false, nat_lt, if◌then◌else◌, List, length, Option}
+use Rattle.std.specs.Prelude.{Some, None}
 use Rattle.std.specs.Prelude.{IfSome}
 use Rattle.regex_hir.specs.Re.{Re}
 use Rattle.automata_base.specs.Haystacks.Input.{Input}

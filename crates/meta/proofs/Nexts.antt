@@ -1,5 +1,5 @@
 -- The groups of the next match of an iteration.
-use Rattle.std.proofs.Common.{ℕ, suc, ◌≡◌, ◌+◌, ◌∙◌, ◌<◌, Bool, true, false, List, [], ◌∷◌, map, length, Option, Some, None}
+use Rattle.std.proofs.Common.{ℕ, suc, ◌≡◌, ◌∙◌, ◌<◌, Bool, true, false, List, [], map, length, Option, Some, None}
 use Rattle.std.proofs.Common.{ap, option_map, refl, subst, sym, arith}
 use Rattle.std.proofs.lemmas.Option.{none-some}
 use Rattle.regex_hir.specs.Find as kit
@@ -8,10 +8,10 @@ use Rattle.automata_base.specs.Haystacks.Matches.{Match}
 use Rattle.meaning.specs.Patterns.{find_any, next_by, numbered_match}
 use Rattle.patterns.specs.Iteration.{most_left}
 use Rattle.patterns.specs.declared.compile.Options.{Options}
-use Rattle.meta.specs.Captures.{HoldFound, HoldGroups, HoldNothing}
+use Rattle.meta.specs.Captures.{HoldGroups, HoldNothing}
 use Rattle.meta.specs.Groups.{IsPreferredMatch}
-use Rattle.meta.specs.Iteration.{HoldNext, IsMetaNext, LiesAfter, YieldsMatch}
-use Rattle.meta.specs.Regexes.{IsMetaRegexOf, IsTextFor}
+use Rattle.meta.specs.Iteration.{HoldNext, LiesAfter, YieldsMatch}
+use Rattle.meta.specs.Regexes.{IsMetaRegexOf}
 use Rattle.meta.specs.declared.captures.Captures.{Captures}
 use Rattle.meta.specs.declared.regexes.Regex.{Regex}
 use Rattle.meta.proofs.Found.{first_of, found_preferred, holds_found, holds_nothing, next_found}

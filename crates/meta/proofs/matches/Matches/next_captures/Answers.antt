@@ -1,4 +1,4 @@
-use Rattle.std.proofs.Common.{◌≡◌, List, sym, subst, ℕ}
+use Rattle.std.proofs.Common.{◌≡◌, List, subst, ℕ}
 use Rattle.regex_hir.specs.Find as kit
 use Rattle.regex_hir.specs.Re.{Re}
 use Rattle.automata_base.specs.Haystacks.Matches.{Match}
