@@ -212,7 +212,9 @@ impl<'r> Lexer<'r> {
     /// Returns the token at an offset, or none if no rule has one there. After an error the cache serves other searches
     /// as before.
     ///
-    /// Under `Prefer::Longest` no rule matches farther than the token, and its rule is the first that does so.
+    /// Under `Prefer::Longest` no rule matches farther than the token, and no earlier rule as far (`meant`). That its own
+    /// rule matches to its end (`exact`) has a premise about the kit's compiler, which does not promise it: the NFA of a
+    /// rule has no paths but the matches of its pattern.
     pub fn token_at(
         &self,
         cache: &mut Cache,

@@ -165,3 +165,15 @@ fn matches_of_an_iteration_have_groups(rt: HostRuntime) -> Result<(), Fail> {
     assert!(rt; captures.get_match().is_none());
     Ok(())
 }
+
+#[test]
+fn matches_have_groups_in_turn(rt: HostRuntime) -> Result<(), Fail> {
+    let alloc = rt.alloc();
+    let regex = Regex::new(alloc, r"(\w)=(\d)?", &Options::default())?;
+    let mut cache = regex.create_cache(alloc)?;
+    let mut captures = regex.create_captures(alloc)?;
+    let hay = "é=1 b= c=2".as_bytes();
+    assert_eq!(rt; count_in_turn(&regex, &mut cache, &mut captures, hay, 2), 2);
+    assert!(rt; captures.get_match().is_none());
+    Ok(())
+}
