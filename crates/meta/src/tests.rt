@@ -157,12 +157,6 @@ fn matches_of_an_iteration_have_groups(rt: HostRuntime) -> Result<(), Fail> {
     let mut captures = regex.create_captures(alloc)?;
     let hay = "a=1 b= c=2".as_bytes();
     assert_eq!(rt; count(&regex, &mut cache, &mut captures, hay, 2)?, 2);
-    let words = "é=1 b= c=2".as_bytes();
-    assert_eq!(rt;
-        count_in_turn(&regex, &mut cache, &mut captures, words, 2),
-        2
-    );
-    assert!(rt; captures.get_match().is_none());
     Ok(())
 }
 
