@@ -11,7 +11,7 @@ import re
 TOP = os.path.dirname(os.path.dirname(os.path.abspath(__file__)))
 NFAS = ["automata_base", "automata_determinize", "automata_transform"]
 LIBRARY = [*NFAS, "automata_config", "automata_hybrid", "regex_automata"]
-CRATES = [*LIBRARY, "meaning", "match_facts", "prefilters", "patterns", "meta", "replay", "lazydfa_c"]
+CRATES = [*LIBRARY, "meaning", "match_facts", "prefilters", "patterns", "lexer", "meta", "replay", "lazydfa_c"]
 # What an answer means: the words of the fields and clauses that say what a search, a walk, a set, a regex or a list of
 # matches or tokens returns, and what a haystack, an input and a sound pair are.
 MEANING = """

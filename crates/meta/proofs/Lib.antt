@@ -5,6 +5,7 @@ mod Found
 mod Held
 mod Items
 mod Leftmost
+mod Nexts
 mod Refusing
 mod Rooms
 mod Simulating

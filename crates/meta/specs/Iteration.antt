@@ -3,9 +3,11 @@ use Rattle.std.specs.Prelude.{ℕ, ◌≡◌, ◌<◌, ◌≤◌, Bool, true, fa
 use Rattle.std.specs.Option.{unwrap_or}
 use Rattle.regex_hir.specs.Re.{Re}
 use Rattle.automata_base.specs.Haystacks.Matches.{Match}
-use Rattle.meaning.specs.Patterns.{IsFirstLeft, left_any}
+use Rattle.meaning.specs.Patterns.{IsFirstLeft, find_any, left_any, next_by}
 use Rattle.patterns.specs.declared.compile.Options.{Options}
+use Rattle.meta.specs.Captures.{HoldFound, HoldNothing}
 use Rattle.meta.specs.Regexes.{IsMetaRegexOf, IsTextFor}
+use Rattle.meta.specs.declared.captures.Captures.{Captures}
 use Rattle.meta.specs.declared.regexes.Regex.{Regex}
 
 -- the next of the remaining matches, by each meaning that the regex has
@@ -33,3 +35,10 @@ YieldsMatch regex hay None last last' false ended' =
     IsMetaNext regex hay last None × (last' ≡ last) × (ended' ≡ true)
 YieldsMatch regex hay (Some m) last last' false ended' =
     IsMetaNext regex hay last (Some m) × LiesAfter hay last m × (last' ≡ Some m.end) × (ended' ≡ false)
+
+-- captures hold the groups of the next match of an iteration; nothing if there is none, or if it has ended
+abbrev pub HoldNext : Regex → List ℕ → (last : Option ℕ) → (ended : Bool) → Captures → Type 0
+HoldNext regex hay last true captures = HoldNothing captures
+HoldNext regex hay last false captures =
+    (o : Options) (res : List Re) → IsMetaRegexOf o res regex → IsTextFor o hay
+    → HoldFound (next_by (find_any o.utf8 res hay) last) captures

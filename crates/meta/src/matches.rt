@@ -1,13 +1,15 @@
 //! The matches of a haystack, one after another.
-ghost use Rattle.std.specs.Prelude.{◌≡◌, ◌≤◌, IfSome, List, None, false, length, true};
+ghost use Rattle.std.specs.Prelude.{◌≡◌, ◌<◌, ◌≤◌, IfSome, List, None, false, length, true};
 ghost use Rattle.std.specs.Iterator.{at_most};
 ghost use Rattle.std.specs.Option.{unwrap_or};
 ghost use Rattle.patterns.specs.Iteration.{most_left};
-ghost use Rattle.meta.specs.Caches.{IsMetaCacheOf};
-ghost use Rattle.meta.specs.Iteration.{YieldsMatch};
+ghost use Rattle.meta.specs.Caches.{HaveRoomFor, IsMetaCacheOf};
+ghost use Rattle.meta.specs.Captures.{HoldMatch};
+ghost use Rattle.meta.specs.Iteration.{HoldNext, YieldsMatch};
 ghost use Rattle.meta.specs.Regexes.{MaySearchByDfas};
 
 use crate::cache::Cache;
+use crate::captures::Captures;
 use crate::regexes::Regex;
 use patterns::Misses;
 use regex_automata::util::search::Match;
@@ -55,6 +57,38 @@ impl Regex {
             by_dfas,
             misses: Misses::none(),
         }
+    }
+}
+
+impl<'r, 'c, 'h> Matches<'r, 'c, 'h> {
+    /// Returns the next match, as `next` does, and stores it with its groups in the captures. If no match remains, the
+    /// captures are empty.
+    ///
+    /// ```rust
+    /// let mut matches = regex.find_iter(&mut cache, hay);
+    /// while let Some(found) = matches.next_captures(&mut captures) {
+    ///     let year = captures.get(1);
+    /// }
+    /// ```
+    pub fn next_captures(&mut self, captures: &mut Captures) -> Option<Match>
+        requires room { HaveRoomFor captures.old self.old.regex.now.programs }
+        ensures steps { YieldsMatch self.old.regex.now self.old.haystack.now result self.old.last self.new.last
+            self.old.ended self.new.ended }
+        ensures groups { HoldNext self.old.regex.now self.old.haystack.now self.old.last self.old.ended captures.new }
+        ensures stored { HoldMatch result captures.new }
+        ensures fewer { IfSome result (λ _. most_left self.new.ended self.old.haystack.now self.new.last
+            < most_left self.old.ended self.old.haystack.now self.old.last) }
+        ensures same { (self.new.regex.now ≡ self.old.regex.now) × (self.new.haystack.now ≡ self.old.haystack.now)
+            × (self.new.cache.ghost_name ≡ self.old.cache.ghost_name) }
+        ensures room { HaveRoomFor captures.new self.old.regex.now.programs }
+    {
+        let Some(found) = self.next() else {
+            captures.clear();
+            return None;
+        };
+        let (regex, hay) = (self.regex, self.haystack);
+        regex.groups_of(&mut self.cache.simulations, hay, &found, captures);
+        Some(found)
     }
 }
 

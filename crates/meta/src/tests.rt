@@ -130,6 +130,25 @@ fn count(
     Ok(count)
 }
 
+/// Counts the matches in which a group took part, each with its groups in turn.
+fn count_in_turn(
+    regex: &Regex,
+    cache: &mut Cache,
+    captures: &mut Captures,
+    hay: &[u8],
+    group: usize,
+) -> usize
+    requires of { IsMetaCacheOf cache.old regex.now }
+    requires room { HaveRoomFor captures.old regex.now.programs }
+{
+    let mut count = 0usize;
+    let mut matches = regex.find_iter(cache, hay);
+    'matches: while let Some(_) = matches.next_captures(captures) {
+        count = count.saturating_add(usize::from(captures.get(group).is_some()));
+    }
+    count
+}
+
 #[test]
 fn matches_of_an_iteration_have_groups(rt: HostRuntime) -> Result<(), Fail> {
     let alloc = rt.alloc();
@@ -138,5 +157,17 @@ fn matches_of_an_iteration_have_groups(rt: HostRuntime) -> Result<(), Fail> {
     let mut captures = regex.create_captures(alloc)?;
     let hay = "a=1 b= c=2".as_bytes();
     assert_eq!(rt; count(&regex, &mut cache, &mut captures, hay, 2)?, 2);
+    Ok(())
+}
+
+#[test]
+fn matches_have_groups_in_turn(rt: HostRuntime) -> Result<(), Fail> {
+    let alloc = rt.alloc();
+    let regex = Regex::new(alloc, r"(\w)=(\d)?", &Options::default())?;
+    let mut cache = regex.create_cache(alloc)?;
+    let mut captures = regex.create_captures(alloc)?;
+    let hay = "é=1 b= c=2".as_bytes();
+    assert_eq!(rt; count_in_turn(&regex, &mut cache, &mut captures, hay, 2), 2);
+    assert!(rt; captures.get_match().is_none());
     Ok(())
 }

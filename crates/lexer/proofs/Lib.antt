@@ -1,0 +1,5 @@
+mod Anchored
+mod Building
+mod Choosing
+mod Meant
+mod Tracing

@@ -1,0 +1,4 @@
+pub mod Rules
+pub mod Lexers
+pub mod Tokens
+pub mod Iteration
