@@ -62,6 +62,12 @@ build_library() {
     strip --strip-unneeded "$room/c/out/liblazydfa.so.$abi"
 }
 
+# Copies the guides to a folder.
+copy_guides() { # FOLDER
+    mkdir -p "$1"
+    cp "$top/docs/C.md" "$top/docs/PATTERNS.md" "$top/docs/CALLING.md" "$top/docs/DIFFERENCES.md" "$1"
+}
+
 # Installs the library in a folder.
 install_library() { # ROOT LIBDIR
     make -s -C "$room/c" install KIT="$kit" DESTDIR="$1" PREFIX=/usr LIBDIR="$2"
@@ -73,7 +79,7 @@ install_library() { # ROOT LIBDIR
 # Writes the documents of the library: guides, an example, licences, and what it was made of.
 install_documents() { # FOLDER
     mkdir -p "$1/examples"
-    cp "$top/docs/C.md" "$top/docs/PATTERNS.md" "$top/docs/CALLING.md" "$top/docs/DIFFERENCES.md" "$1"
+    copy_guides "$1"
     cp "$top/CHANGELOG.md" "$top"/LICENSE-* "$1"
     cp -r "$top/LICENSES" "$1"
     cp "$top/bindings/c/examples/grep.c" "$1/examples"
@@ -98,6 +104,7 @@ make_tarball() {
     sed -n '1,/\*\//p' "$header" | sed -e 's|^/\* ||' -e 's|^ \*/\?||' -e 's/\\/\\e/g' |
         sed -e "s/^[.']/\\\\\&&/" -e '1i .nf' -e '$a .fi' |
         manual lazydfa 3 'regular expressions by a lazy DFA' | gzip -9n >"$root/share/man/man3/lazydfa.3.gz"
+    "$tools/dist/links.py" "$root"
     (cd "$root" && find . -type f | sort | xargs sha256sum) >"$room/sums"
     mv "$room/sums" "$root/SHA256SUMS"
     packed "$name" "$name.tar.gz"
@@ -140,6 +147,8 @@ make_crate() {
     cp "$room/c/out/liblazydfa.a" "$crate/lib/x86_64-unknown-linux-gnu"
     cp "$top"/LICENSE-* "$crate"
     cp -r "$top/LICENSES" "$crate"
+    copy_guides "$crate/docs"
+    "$tools/dist/links.py" "$crate"
     packed "lazydfa-$version" "lazydfa-$version-rust.tar.gz"
 }
 
@@ -147,6 +156,8 @@ make_python() {
     package=$room/lazydfa-python-$version
     cp -r "$top/bindings/python" "$package"
     cp "$top"/LICENSE-* "$package"
+    copy_guides "$package/docs"
+    "$tools/dist/links.py" "$package"
     find "$package" -name __pycache__ -prune -exec rm -rf {} +
     packed "lazydfa-python-$version" "lazydfa-$version-python.tar.gz"
 }

@@ -33,6 +33,14 @@ has_sums() {
     cd "$room/lazydfa" && sha256sum -c --quiet SHA256SUMS
 }
 
+# In each tarball, the links of each document lead to files of the tarball.
+has_links() {
+    for packed in "$room"/first/*.tar.gz; do
+        mkdir -p "$room/linked/$(basename "$packed")" && tar -C "$room/linked/$(basename "$packed")" -xf "$packed" || return
+    done
+    for folder in "$room"/linked/*; do "$top/tools/dist/links.py" "$folder" --check || return; done
+}
+
 names_archive() {
     grep -q "^archive $(sha256sum <"$ARCHIVE" | cut -d ' ' -f 1)$" "$room/lazydfa/share/doc/lazydfa/BUILD"
 }
@@ -70,6 +78,7 @@ else
     test_that "the tarball" tar -C "$room/lazydfa" --strip-components=1 -xf "$room"/first/lazydfa-*-linux.tar.gz
     test_that "its sums" has_sums
     test_that "what it is made of" names_archive
+    test_that "the links of documents" has_links
     test_that "a program with the archive" prints_words "$room/lazydfa/lib/liblazydfa.a"
     test_that "a program with the shared library" prints_words "$room/lazydfa/lib/liblazydfa.so"
     if ls "$room"/first/lgrep-*-linux.tar.gz >/dev/null 2>&1; then

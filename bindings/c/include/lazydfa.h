@@ -140,6 +140,10 @@ enum lazydfa_match_kind {
     LAZYDFA_ALL = 1             /* all matches: for overlapping searches and sets */
 };
 
+/* Do not ask a regex of the kind LAZYDFA_ALL for a match, or whether there is one. The match would be the one that ends
+   last, which in text may lie inside a character, and is then not reported: (?-u:\B) over "\u2603a" has a match for
+   lazydfa_which, and none for lazydfa_find and lazydfa_is_match. */
+
 /* Flags of `zeros`: the numbers of the options whose 0 is not the default, but the number 0. */
 enum lazydfa_zero {
     LAZYDFA_ZERO_CACHE_CAPACITY = 1,
