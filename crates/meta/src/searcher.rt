@@ -1,5 +1,5 @@
 //! A regex with a cache of its own.
-ghost use Rattle.std.specs.Prelude.{◌≡◌, ◌≤◌, IfOk, IfSome, is_some, length, option_map};
+ghost use Rattle.std.specs.Prelude.{◌≡◌, ◌≤◌, IfOk, IfSome, List, is_some, length, option_map};
 ghost use Rattle.regex_hir.specs.Re.{Re};
 ghost use Rattle.meaning.specs.Patterns.{find_any, numbered_match};
 ghost use Rattle.patterns.specs.declared.compile.Options as options;
