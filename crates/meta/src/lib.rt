@@ -19,6 +19,7 @@ mod matches;
 mod program;
 mod programs;
 mod regexes;
+mod searcher;
 mod simulation;
 #[cfg(test)]
 mod tests;
@@ -28,4 +29,5 @@ pub use captures::Captures;
 pub use matches::Matches;
 pub use program::Programs;
 pub use regexes::Regex;
+pub use searcher::Searcher;
 pub use simulation::Simulation;

@@ -1,0 +1,93 @@
+//! A regex with a cache of its own.
+ghost use Rattle.std.specs.Prelude.{◌≡◌, ◌≤◌, IfOk, IfSome, List, is_some, length, option_map};
+ghost use Rattle.regex_hir.specs.Re.{Re};
+ghost use Rattle.meaning.specs.Patterns.{find_any, numbered_match};
+ghost use Rattle.patterns.specs.declared.compile.Options as options;
+ghost use Rattle.meta.specs.Caches.{HaveRoomFor, IsMetaCacheOf};
+ghost use Rattle.meta.specs.Captures.{HoldFound, HoldMatch};
+ghost use Rattle.meta.specs.Regexes.{IsMetaRegexOf, IsTextFor};
+
+use crate::cache::Cache;
+use crate::captures::Captures;
+use crate::regexes::Regex;
+use regex_automata::util::search::Match;
+use std::alloc::{AllocError, Global};
+
+/// A regex and its cache, for a program that searches on one thread: its searches need no cache, and cannot fail.
+///
+/// ```rust
+/// let mut searcher = Searcher::new(alloc, Regex::new(alloc, r"\bif\b", &Options::default())?)?;
+/// let found = searcher.find(line, 0);
+/// ```
+pub struct Searcher {
+    regex: Regex,
+    cache: Cache,
+    ghost of: { IsMetaCacheOf cache regex },
+}
+
+// With its own `drop`, the proof of an owner has one step for it instead of one for each part.
+impl Drop for Searcher {
+    fn drop(self) {
+        let Self {
+            regex: _regex,
+            cache: _cache,
+        } = self;
+    }
+}
+
+impl Searcher {
+    /// Makes a searcher of a regex, with a new cache.
+    pub fn new(alloc: Global, regex: Regex) -> Result<Searcher, AllocError>
+        ensures { IfOk result (λ searcher. searcher.regex ≡ regex) }
+    {
+        match regex.create_cache(alloc) {
+            Ok(cache) => Ok(Searcher { regex, cache }),
+            Err(error) => Err(error),
+        }
+    }
+
+    /// Returns the regex, for what is known of it: the number and the names of its groups.
+    pub fn regex(&self) -> &Regex
+        ensures { result.now ≡ self.now.regex }
+    {
+        &self.regex
+    }
+
+    /// Returns the leftmost match that begins at `at` or later, as `Regex::find` does.
+    pub fn find(&mut self, hay: &[u8], at: usize) -> Option<Match>
+        requires { at ≤ length hay.now }
+        ensures found { (o : options.Options) (res : List Re) → IsMetaRegexOf o res self.old.regex → IsTextFor o hay.now
+            → result ≡ option_map (numbered_match res hay.now) (find_any o.utf8 res hay.now at) }
+        ensures within { IfSome result (λ m. (at ≤ m.start) × (m.end ≤ length hay.now)) }
+        ensures regex { self.new.regex ≡ self.old.regex }
+    {
+        self.regex.find(&mut self.cache, hay, at)
+    }
+
+    /// Whether a match begins at `at` or later.
+    pub fn is_match(&mut self, hay: &[u8], at: usize) -> bool
+        requires { at ≤ length hay.now }
+        ensures found { (o : options.Options) (res : List Re) → IsMetaRegexOf o res self.old.regex → IsTextFor o hay.now
+            → result ≡ is_some (find_any o.utf8 res hay.now at) }
+        ensures regex { self.new.regex ≡ self.old.regex }
+    {
+        self.regex.is_match(&mut self.cache, hay, at)
+    }
+
+    /// Returns the match that `find` returns, and stores it with its groups in captures that `Regex::create_captures`
+    /// made. If there is no match, the captures are empty.
+    pub fn captures(&mut self, hay: &[u8], at: usize, captures: &mut Captures) -> Option<Match>
+        requires room { HaveRoomFor captures.old self.old.regex.programs }
+        requires within { at ≤ length hay.now }
+        ensures found { (o : options.Options) (res : List Re) → IsMetaRegexOf o res self.old.regex → IsTextFor o hay.now
+            → result ≡ option_map (numbered_match res hay.now) (find_any o.utf8 res hay.now at) }
+        ensures groups { (o : options.Options) (res : List Re) → IsMetaRegexOf o res self.old.regex → IsTextFor o hay.now
+            → HoldFound (find_any o.utf8 res hay.now at) captures.new }
+        ensures stored { HoldMatch result captures.new }
+        ensures within { IfSome result (λ m. (at ≤ m.start) × (m.end ≤ length hay.now)) }
+        ensures regex { self.new.regex ≡ self.old.regex }
+        ensures room { HaveRoomFor captures.new self.new.regex.programs }
+    {
+        self.regex.captures(&mut self.cache, hay, at, captures)
+    }
+}
