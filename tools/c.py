@@ -163,6 +163,7 @@ class Tests:
         self.try_program(f"pieces{kind}", f"{C}/tests/pieces.c", flags)
         self.try_program(f"walks{kind}", f"{C}/tests/walks.c", flags)
         self.try_program(f"needles{kind}", f"{C}/tests/needles.c", flags)
+        self.try_program(f"words{kind}", f"{C}/tests/words.c", flags)
         self.try_program(f"faults{kind}", f"{C}/tests/faults.c", [*WRAPPED, *flags])
         self.try_program(f"memory{kind}", f"{C}/tests/memory.c", [*WRAPPED, *flags])
         self.try_program(f"threads{kind}", f"{C}/tests/threads.c", ["-pthread", *flags])

@@ -19,11 +19,16 @@
 #define SMALL_TABLES 10240
 #define SHORTEST_PIECE 16
 
-/* The bytes that a cache takes for groups: of each state some, and more for each group. A state takes at least
+/* The bytes that a cache takes for simulations: of each state some, and more for each group. A state takes at least
    STATE_SIZE bytes of the tables. */
 #define STATE_SIZE 16
 #define HELD_STEP 52
 #define HELD_SLOTS 32
+
+/* A simulation by one call takes at most some 2 us for each byte and kB of the tables. So with tables of this size as
+   many bytes may be simulated at once as a piece has; there may be more if the tables are smaller. */
+#define SIMULATED_TABLES 10240
+#define SIMULATED_BESIDE 256
 
 /* Returns the SQLSTATE of a status. */
 static int sqlstate_of(uint32_t code) {
@@ -42,7 +47,8 @@ void fail(lazydfa_status status) {
         ereport(ERROR, errcode(ERRCODE_FEATURE_NOT_SUPPORTED),
                 errmsg("a Unicode word boundary cannot be searched for in text that is not ASCII"),
                 errdetail("At offset %zu of the text is the byte 0x%02x.", status.offset, status.byte),
-                errhint("Write (?-u:\\b) for a word boundary of ASCII."));
+                errhint("Write (?-u:\\b) for a word boundary of ASCII. Others are found only in text that is searched at "
+                        "once, up to lazydfa.piece_size, and not for sets and tokens."));
     if (status.code == LAZYDFA_TOO_LARGE || status.code == LAZYDFA_STATE_IDS)
         ereport(ERROR, errcode(ERRCODE_PROGRAM_LIMIT_EXCEEDED), errmsg("regular expression is too large"),
                 errdetail("Its tables need more than %d kB.", setting_pattern_size),
@@ -131,8 +137,7 @@ lazydfa_options text_options(uint32 flags) {
     return options;
 }
 
-/* Reads the patterns of a key. Unicode word boundaries are allowed: a search for one fails if it reads text that is not
-   ASCII. Returns false if the patterns are not valid, while the planner estimates. */
+/* Reads the patterns of a key. Returns false if they are not valid, while the planner estimates. */
 static bool read_source(Source *source, const Key *key) {
     lazydfa_options *options = &source->options;
     memset(source, 0, sizeof *source);
@@ -143,15 +148,24 @@ static bool read_source(Source *source, const Key *key) {
     options->cache_limit = Min(4 * options->cache_capacity, (size_t)setting_cache_size * 1024 / 2);
     if (!(key->flags & ENDS_ONLY)) options->cache_capacity /= 2, options->cache_limit /= 2; /* for each direction */
     options->skip_cache_capacity_check = 1;
-    options->unicode_word_boundary = 1;
     options->match_kind = key->flags & FINDS_ALL ? LAZYDFA_ALL : LAZYDFA_LEFTMOST_FIRST;
     return source->texts != NULL;
 }
 
-/* Reports an error if a cache would take too much memory for the groups of its pattern: more than its states may. */
+/* Returns the memory that a cache takes for simulations, which find groups and Unicode word boundaries, in bytes. */
+static double simulated_memory(const Kept *kept) {
+    return (double)kept->size / STATE_SIZE * (HELD_STEP + HELD_SLOTS * (double)kept->groups);
+}
+
+/* Returns how much it may be: as much as the states of the cache. */
+static size_t simulated_limit(const Source *source) {
+    return source->options.cache_limit * 2; /* it is that of one direction */
+}
+
+/* Reports an error if a cache would take too much memory for the groups of its pattern. */
 static void limit_groups(const Kept *kept, const Source *source) {
-    size_t limit = source->options.cache_limit * 2; /* it is that of one direction */
-    double needed = (double)kept->size / STATE_SIZE * (HELD_STEP + HELD_SLOTS * (double)kept->groups);
+    size_t limit = simulated_limit(source);
+    double needed = simulated_memory(kept);
     if (needed <= limit) return;
     ereport(ERROR, errcode(ERRCODE_PROGRAM_LIMIT_EXCEEDED),
             errmsg("regular expression is too large for its groups to be reported"),
@@ -161,16 +175,39 @@ static void limit_groups(const Kept *kept, const Source *source) {
                     "lazydfa.cache_size."));
 }
 
-/* Opens a regex and its cache. */
-static lazydfa_status open_regex(Kept *kept, Source *source) {
+/* Opens a regex, and returns its size. */
+static lazydfa_status build(Kept *kept, Source *source) {
     lazydfa_status status;
     CHECK_FOR_INTERRUPTS();
     status = lazydfa_regex_any_of(&kept->regex, source->texts, source->count, &source->options, &source->error);
     CHECK_FOR_INTERRUPTS();
-    if (status.code == LAZYDFA_OK) status = lazydfa_regex_size(&kept->regex, &kept->size);
-    if (status.code == LAZYDFA_OK && source->options.groups) {
-        status = lazydfa_group_count(&kept->regex, 0, &kept->groups);
-        if (status.code == LAZYDFA_OK) limit_groups(kept, source);
+    return status.code == LAZYDFA_OK ? lazydfa_regex_size(&kept->regex, &kept->size) : status;
+}
+
+/* Finds out whether searches are simulated where DFAs cannot decide, and how many groups a pattern has at most. */
+static void count_groups(Kept *kept, size_t patterns) {
+    size_t groups = 0;
+    kept->groups = 0;
+    for (size_t i = 0; i < patterns; i++) {
+        if (lazydfa_group_count(&kept->regex, i, &groups).code != LAZYDFA_OK) break;
+        kept->groups = Max(kept->groups, groups);
+    }
+    kept->simulates = kept->groups > 0;
+}
+
+/* Opens a regex and its cache. If simulations would take too much memory, a Unicode word boundary is searched for in
+   ASCII text alone. */
+static lazydfa_status open_regex(Kept *kept, Source *source) {
+    lazydfa_status status = build(kept, source);
+    if (status.code != LAZYDFA_OK) return status;
+    count_groups(kept, source->count);
+    if (source->options.groups) {
+        limit_groups(kept, source);
+    } else if (kept->simulates && simulated_memory(kept) > simulated_limit(source)) {
+        lazydfa_regex_close(&kept->regex);
+        source->options.unicode_word_boundary = 1;
+        status = build(kept, source);
+        kept->simulates = false;
     }
     return status.code == LAZYDFA_OK ? lazydfa_cache_new(&kept->cache, &kept->regex) : status;
 }
@@ -259,12 +296,17 @@ bool compile(Kept *kept, const Key *key) {
         return false;
     }
     kept->count = source.count;
-    kept->piece = piece_of(kept->size, setting_piece_size);
+    kept->piece = piece_of(kept, setting_piece_size);
     return true;
 }
 
-size_t piece_of(size_t size, int piece_size) {
-    size_t piece = piece_size;
-    if (size <= SMALL_TABLES) return piece;
-    return Max((size_t)((double)piece * SMALL_TABLES / size), Min(piece, SHORTEST_PIECE));
+size_t longest_simulated(const Kept *kept, int piece_size) {
+    return (size_t)((double)piece_size * SIMULATED_TABLES / (kept->size + SIMULATED_BESIDE));
+}
+
+size_t piece_of(const Kept *kept, int piece_size) {
+    size_t piece = piece_size, shortest = Min(piece, SHORTEST_PIECE);
+    if (kept->size > SMALL_TABLES) piece = (size_t)((double)piece * SMALL_TABLES / kept->size);
+    if (kept->simulates) piece = Min(piece, longest_simulated(kept, piece_size));
+    return Max(piece, shortest);
 }

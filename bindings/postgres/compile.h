@@ -18,8 +18,11 @@ extern lazydfa_options text_options(uint32 flags);
    planner estimates. After an error nothing is open. */
 extern bool compile(Kept *kept, const Key *key);
 
-/* Returns the length of pieces for patterns with tables of this size. */
-extern size_t piece_of(size_t size, int piece_size);
+/* Returns the length of pieces for patterns: a shorter value is searched at once. */
+extern size_t piece_of(const Kept *kept, int piece_size);
+
+/* Returns how many bytes may be simulated at once. */
+extern size_t longest_simulated(const Kept *kept, int piece_size);
 
 /* Reports the status of a search, or of a call that prepares one, as an error. */
 extern NEVER_RETURNS(void fail(lazydfa_status status));

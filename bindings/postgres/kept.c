@@ -65,7 +65,7 @@ void kept_set_pieces(int piece_size) {
     dlist_iter at;
     dlist_foreach(at, &by_use) {
         Kept *kept = dlist_container(Kept, by_use, at.cur);
-        kept->piece = piece_of(kept->size, piece_size);
+        kept->piece = piece_of(kept, piece_size);
     }
 }
 

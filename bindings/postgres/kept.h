@@ -37,10 +37,11 @@ typedef struct {
     uint64 generation;   /* increases when they are freed */
     Key key;             /* a copy; its bytes are NULL if no patterns are kept here */
     size_t count;        /* the number of patterns */
-    size_t groups;       /* how many groups the pattern has, with group 0, if it HAS_GROUPS */
+    size_t groups;       /* how many groups a pattern has at most, with group 0, if searches or groups are simulated */
     size_t size;         /* the size of the regex's tables, as lazydfa.pattern_size limits it */
     size_t piece;        /* how many bytes of a value are searched before the query can be cancelled */
     bool skips;          /* searches skip empty matches inside a character */
+    bool simulates;      /* groups are simulated, and searches where DFAs cannot decide a Unicode word boundary */
     size_t memory;       /* the bytes held when they were last counted */
     size_t uncounted;    /* an upper bound on the bytes added since then */
     lazydfa_regex regex;

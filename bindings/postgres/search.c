@@ -8,11 +8,6 @@
 #include "compile.h"
 #include "settings.h"
 
-/* The groups of a match are found by one call, which takes at most some 2 us for each byte of the match and kB of the
-   tables. So with tables of this size a match may be as long as a piece; it may be longer if they are smaller. */
-#define GROUPS_TABLES 10240
-#define GROUPS_BESIDE 256
-
 static const lazydfa_status none = {LAZYDFA_NONE, 0, 0};
 
 void begin_value(Value *value, struct varlena *it) {
@@ -109,11 +104,25 @@ static lazydfa_status find_start(Value *value, const lazydfa_input *left, lazydf
     return lazydfa_find_start(&value->kept->cache, value->bytes, value->length, left, start);
 }
 
+/* Searches for the first match in the remaining input by single calls, of which each may be simulated. */
+static lazydfa_status find_at_once(Value *value, lazydfa_input *left, lazydfa_match *match) {
+    while (left->start <= left->end) {
+        lazydfa_status status;
+        CHECK_FOR_INTERRUPTS();
+        status = lazydfa_find(&value->kept->cache, value->bytes, value->length, left, match);
+        if (status.code != LAZYDFA_OK || !is_skipped(value, match->end)) return status;
+        left->start = match->end + 1;
+    }
+    return none;
+}
+
 /* Searches for the end of the first match from an offset on, and then backward from there for its start. */
 static lazydfa_status find_from(Value *value, size_t from, lazydfa_match *match) {
     lazydfa_input left = {from, value->length, LAZYDFA_UNANCHORED, 0, 0, 0};
     lazydfa_half end, start;
-    lazydfa_status status = find_end(value, &left, &end);
+    lazydfa_status status;
+    if (value->kept->simulates && !is_long(value, from)) return find_at_once(value, &left, match);
+    status = find_end(value, &left, &end);
     if (status.code != LAZYDFA_OK) return status;
     match->start = match->end = end.offset;
     match->pattern = end.pattern;
@@ -243,13 +252,8 @@ bool find_next(Value *value, lazydfa_match *match) {
     return status.code == LAZYDFA_OK;
 }
 
-/* Returns how long a match may be whose groups are reported. */
-static size_t longest_match(const Kept *kept) {
-    return (size_t)((double)setting_piece_size * GROUPS_TABLES / (kept->size + GROUPS_BESIDE));
-}
-
 void find_groups(Value *value, const lazydfa_match *match, lazydfa_span *groups, size_t room) {
-    size_t most = longest_match(value->kept), count;
+    size_t most = longest_simulated(value->kept, setting_piece_size), count;
     lazydfa_status status;
     if (match->end - match->start > most)
         ereport(ERROR, errcode(ERRCODE_PROGRAM_LIMIT_EXCEEDED),

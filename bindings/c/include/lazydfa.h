@@ -79,7 +79,6 @@ enum lazydfa_code {
 
     /* from building a regex; lazydfa_automata.h has those of builders */
     LAZYDFA_TOO_LARGE = 14,      /* too many states, patterns, groups or alternates, or a limit is exceeded */
-    LAZYDFA_UNSUPPORTED = 24,    /* a Unicode word boundary, without the option for it */
     LAZYDFA_CAPACITY = 25,       /* the cache capacity is too small; the offset is a capacity that is enough */
     LAZYDFA_STATE_IDS = 26,      /* the smallest table is too large; the offset is the ID that does not fit */
 
@@ -91,7 +90,7 @@ enum lazydfa_code {
     LAZYDFA_NO_TOKEN = 34,       /* no pattern matches at the offset, or only with the empty string */
 
     /* from a call for groups */
-    LAZYDFA_NO_GROUPS = 37,      /* the regex was not built from texts with the option `groups` */
+    LAZYDFA_NO_GROUPS = 37,      /* the regex was not built from texts with the option `groups`, or with \b */
 
     /* from a pattern's text */
     LAZYDFA_SYNTAX = 40,         /* it is not a valid pattern; the offset is that of the error in the text */
@@ -176,8 +175,8 @@ enum lazydfa_zero {
  * A regex that only searches forward (forward_only) takes less memory, and less time to build. lazydfa_is_match,
  * lazydfa_find_end, lazydfa_all_ends, lazydfa_which, tokens, pieces and walks return what they return with any other
  * regex. lazydfa_find and iterations report a match that ends where the search begins, or that is anchored, by its
- * input or since all matches of the texts begin at the start of the haystack, as those of ^abc do; they fail with
- * LAZYDFA_NOT_A_PAIR for any other match. Backward searches (lazydfa_find_start, lazydfa_all_starts, and searches with
+ * input or since all matches of the texts begin at the start of the haystack, as those of ^abc do; for any other match
+ * the DFAs fail with LAZYDFA_NOT_A_PAIR. Backward searches (lazydfa_find_start, lazydfa_all_starts, and searches with
  * the regex of lazydfa_regex_reverse) find nothing. */
 typedef struct {
     size_t struct_size;                 /* sizeof(lazydfa_options) */
@@ -191,7 +190,7 @@ typedef struct {
     uint32_t match_kind;                /* an enum lazydfa_match_kind */
     uint32_t starts_for_each_pattern;   /* for LAZYDFA_ANCHORED_PATTERN */
     uint32_t no_byte_classes;           /* each byte is a class of its own */
-    uint32_t unicode_word_boundary;     /* allows one: bytes from 0x80 on are quit bytes if the regex has one */
+    uint32_t unicode_word_boundary;     /* allows one for DFAs alone: bytes from 0x80 on are quit bytes then */
     uint32_t specialize_start_states;
     uint32_t skip_cache_capacity_check; /* raises a capacity that is too small */
     uint32_t always_anchored;           /* a builder's two starts may be one state: every search is anchored then */
@@ -221,9 +220,11 @@ typedef struct {
 
 /* ---- Regexes ----
  *
- * The syntax is that of Rust's regex crate, which has no lookahead, lookbehind or back references. A word boundary must
- * be an ASCII one, (?-u:\b), unless the options allow unicode_word_boundary. A pattern that could match a part of a
- * character, such as (?-u:.), is LAZYDFA_SYNTAX unless the option `bytes` is on. */
+ * The syntax is that of Rust's regex crate, which has no lookahead, lookbehind or back references. A pattern that could
+ * match a part of a character, such as (?-u:.), is LAZYDFA_SYNTAX unless the option `bytes` is on. DFAs decide \b, a
+ * word boundary of Unicode, only in an ASCII haystack. In others, and where DFAs fail, a regex with \b is simulated, in
+ * time proportional to the bytes times the states, if the input is unanchored and ends with the haystack, and, but for
+ * lazydfa_is_match, is not `earliest`, with LAZYDFA_LEFTMOST_FIRST. Other searches fail with LAZYDFA_QUIT there. */
 
 /* The text of a pattern, in UTF-8. It need not end with a zero, and may contain zeros. */
 typedef struct {
@@ -248,8 +249,8 @@ typedef struct {
 #define LAZYDFA_ERROR_INIT { sizeof(lazydfa_error), { 0, 0, 0 }, 0, 0, 0, 0, { 0 } }
 
 /* Builds a regex from one pattern, of `length` bytes. options may be NULL for the defaults, and error if the status is
-   enough. LAZYDFA_SYNTAX, LAZYDFA_NOT_TEXT, LAZYDFA_NOT_COMPILED, LAZYDFA_UNSUPPORTED, and LAZYDFA_TOO_LARGE if a limit
-   of the options is exceeded; LAZYDFA_CAPACITY and LAZYDFA_STATE_IDS depend on the options. */
+   enough. LAZYDFA_SYNTAX, LAZYDFA_NOT_TEXT, and LAZYDFA_TOO_LARGE if a limit of the options is exceeded;
+   LAZYDFA_CAPACITY and LAZYDFA_STATE_IDS depend on the options. */
 lazydfa_status lazydfa_regex_new(lazydfa_regex *regex, const char *pattern, size_t length,
                                  const lazydfa_options *options, lazydfa_error *error);
 
@@ -277,8 +278,7 @@ lazydfa_status lazydfa_cache_reset(lazydfa_cache *cache);
  * returns LAZYDFA_OK with a match and LAZYDFA_NONE without one, and writes only with LAZYDFA_OK, unless its comment
  * says otherwise. It fails with LAZYDFA_QUIT, LAZYDFA_GAVE_UP and LAZYDFA_ANCHORED, and with LAZYDFA_NOT_A_PAIR if the
  * regex was built from two NFAs or only searches forward. If the matches of texts all begin with a literal, or with one
- * of two, and there are no quit bytes, these searches and iterations begin at the first of them in the span: they find
- * the same, and the DFA does not read the bytes before it. */
+ * of two, and there are no quit bytes, searches begin at the first of them in the span, and read nothing before it. */
 
 enum lazydfa_anchored {
     LAZYDFA_UNANCHORED = 0,       /* a match may begin anywhere in the span */
@@ -309,8 +309,8 @@ typedef struct {
     uint32_t reserved;
 } lazydfa_half;
 
-/* The input that remains to be searched, the end of the last match if there was one, and whether the iteration has
-   ended. */
+/* The input that remains to be searched, whose last member says whether the haystack was found to be ASCII; the end of
+   the last match if there was one; and whether the iteration has ended. */
 typedef struct {
     lazydfa_input left;
     size_t last;
@@ -368,9 +368,9 @@ lazydfa_status lazydfa_tokens(lazydfa_cache *cache, const uint8_t *haystack, siz
 
 /* ---- Groups ----
  *
- * For a regex that was built from texts with the option `groups`; for any other, these calls return LAZYDFA_NO_GROUPS.
- * Group 0 of a pattern is the whole match, and its groups have the numbers 1, 2 and so on, in the order in which they
- * are opened (lazydfa_automata.h has the calls for their names). */
+ * For a regex that was built from texts with the option `groups`, or with \b; for any other, the code is
+ * LAZYDFA_NO_GROUPS. Group 0 of a pattern is the whole match, and its groups have the numbers 1, 2 and so on, in the
+ * order in which they are opened (lazydfa_automata.h has the calls for their names). */
 
 /* The span of a group of a match, or LAZYDFA_NO_OFFSET twice if the group took no part in it. A group in a repetition
    has the span of the last round in which it took part. */

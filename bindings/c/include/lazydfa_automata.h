@@ -28,6 +28,7 @@ enum lazydfa_automata_code {
     LAZYDFA_NOT_LAZY = 20,       /* the unanchored start does not skip lazily; lazydfa_add_unanchored_prefix does */
     LAZYDFA_NOT_UTF8 = 22,       /* in UTF-8 mode a match may be invalid UTF-8 */
     LAZYDFA_STARTS = 23,         /* only some starts match the empty string: the NFA cannot be reversed */
+    LAZYDFA_UNSUPPORTED = 24,    /* a builder has a Unicode word boundary, without the option for it */
     LAZYDFA_PATTERN_COUNTS = 27, /* the two NFAs of a pair differ in their numbers of patterns */
     LAZYDFA_ONE_START = 28,      /* both starts are one state, and always_anchored of the options is 0 */
 
@@ -38,8 +39,8 @@ enum lazydfa_automata_code {
 
 /* ---- Names of groups ----
  *
- * LAZYDFA_NO_GROUPS if the regex was not built from texts with the option `groups`. LAZYDFA_ARGUMENT also if there is no
- * pattern, or no group, of a number. */
+ * LAZYDFA_NO_GROUPS if the regex was not built from texts with the option `groups`, or with \b. LAZYDFA_ARGUMENT also if
+ * there is no pattern, or no group, of a number. */
 
 /* Writes how many groups a pattern has, group 0 included. */
 lazydfa_status lazydfa_group_count(lazydfa_regex *regex, uint32_t pattern, size_t *count);
@@ -279,7 +280,7 @@ typedef struct {
  *
  * LAZYDFA_SYNTAX and LAZYDFA_NOT_TEXT, with the offset in the text, and LAZYDFA_TOO_LARGE if the text exceeds the
  * limits on text or on class escapes. After an error facts has zeros, and nothing else is written. A pattern for which
- * lazydfa_regex_new fails because of the size of its tables or a word boundary has facts. */
+ * lazydfa_regex_new fails because of the size of its tables has facts. */
 lazydfa_status lazydfa_text_facts(const char *text, size_t length, const lazydfa_options *options,
                                   lazydfa_facts *facts, uint8_t *bytes, size_t room, size_t *lengths,
                                   size_t count_room);

@@ -53,6 +53,7 @@ static void patterns(void) {
     FINDS(".", "\n", "");
     FINDS("\\pL\\d", "\xC3\xA9" "1", "[0,3]");
     FINDS("(?-u:\\b)x", "ax x", "[3,4]");
+    FINDS("\\bx", "\xC3\xA9x x", "[4,5]");
     FINDS("(?x) a # b", "a", "[0,1]");
     FINDS("a\0b", "a", "");
 }
@@ -60,8 +61,6 @@ static void patterns(void) {
 static void refused(void) {
     FINDS("foo(b", "", "40 at 3, 3..4: unclosed group");
     FINDS("a{2,1}", "", "40 at 1, 1..6: invalid repetition count range, the start must be <= the end");
-    FINDS("\\bx", "",
-          "24 at 0, 0..0: a Unicode word boundary is not supported: write (?-u:\\b) for an ASCII word boundary");
     FINDS("(a{1000}){1000}", "",
           "14 at 0, 0..0: the patterns are too large: up to this one their tables take more than 10485760 bytes; raise "
           "size_limit");

@@ -30,9 +30,12 @@ SELECT 'a' =~| array_agg('\w{9}' || n) FROM generate_series(1, 1000) n;
 SELECT 'a' =~ (repeat('(', 250) || 'a' || repeat(')', 250)) AS yes;
 SELECT 'a' =~ repeat('(', 60000);
 
--- In ASCII text a Unicode word boundary is an ASCII word boundary
+-- Unicode word boundaries, in short text and in text that is searched in pieces
 SELECT 'an ERROR, ä' =~ '\bERROR\b' AS yes;
-SELECT 'ä ERROR' =~ '\bERROR\b';
+SELECT 'ä ERROR' =~ '\bERROR\b' AS yes, 'äERROR' =~ '\bERROR\b' AS no;
+SELECT lazydfa_find('字 éa b', '\b\w\b'), lazydfa_count('один, два', '\b'), lazydfa_split('ä–ö', '\b');
+SELECT 'ä b' =~| array['\bx', '\bb'] AS yes;
+SELECT lazydfa_which('ä b', array['\bx', '\bb']);
 SET lazydfa.piece_size = 3;
 SELECT 'ERROR ä' =~ '\bERRORS';
 SELECT lazydfa_count('ab äb', '\bb');
@@ -43,7 +46,7 @@ RESET lazydfa.piece_size;
 SELECT 'a' =~ '(';
 SELECT 'a' =~ repeat('a', 100000);
 SELECT 'a' =~ '(a{1000}){1000}';
-SELECT 'ä' =~ '\ba';
+SELECT lazydfa_which('ä', array['\ba']);
 SELECT lazydfa_which('a', array['a', NULL]);
 SELECT lazydfa_tokens('b', array['a']);
 \set VERBOSITY default

@@ -14,7 +14,7 @@ INSERT INTO log SELECT n, kind, line, convert_to(line, 'UTF8') FROM generate_ser
 -- Without statistics few rows match, and most do not
 SELECT rows_of('SELECT * FROM log WHERE line !=~ ''q''') > 50 * rows_of('SELECT * FROM log WHERE line =~ ''q''') AS most;
 
--- With statistics it expects the rows that have a match; the query does not search some of them, and could not
+-- With statistics it expects the rows that have a match; the query does not search some of them
 SELECT count(*) AS all_500 FROM log WHERE kind = 'ascii' AND line =~ '\bERROR\b';
 ANALYZE log;
 SELECT count(*) AS all_500 FROM log WHERE kind = 'ascii' AND line =~ '\bERROR\b';

@@ -43,6 +43,39 @@ def random_text(rnd):
     return "".join(rnd.choice(LETTERS) for _ in range(rnd.randrange(12)))
 
 
+# Characters of four scripts of which both engines agree whether they are word characters, and what random patterns with
+# word boundaries consist of.
+SCRIPTS = "aZ7_ .-éßдЖ ωΣ字漢。—\u00a0"
+BOUNDARIES = [r"\b", r"\B"]
+PARTS = [*BOUNDARIES, r"\w", r"\W", r"\w+", r"\w*?", r"\W+", "д", "é", "[aω字]", "[^ж ]", "Σ?", "(?:字|д)+", ".", "(a)?"]
+WORD_PATTERNS, WORD_TEXTS = 1500, 16
+
+
+def random_words(rnd):
+    """Returns a random pattern with a word boundary."""
+    branches = []
+    for _ in range(rnd.choice([1, 1, 2])):
+        parts = [rnd.choice(PARTS) for _ in range(rnd.randrange(1, 4))]
+        parts.insert(rnd.randrange(len(parts) + 1), rnd.choice(BOUNDARIES))
+        branches.append("".join(parts))
+    return "|".join(branches)
+
+
+def matches_by_re(regex, text):
+    """Returns the spans that iterations of `re` by the rule of Rust's crate find: an empty match where the last match ended
+    is passed over."""
+    found, at, last = [], 0, None
+    while at <= len(text):
+        it = regex.search(text, at)
+        if it and it.start() == it.end() == last:
+            it = regex.search(text, at + 1) if at < len(text) else None
+        if it is None:
+            break
+        found.append(it.span())
+        at = last = it.end()
+    return found
+
+
 TEMPLATES = [r"<\1>", r"\g<0>-\2", r"\g<x1>!", r"\n\\\.\041", r"é\3\g<1>0", "-", r"\0\07a\12\1012"]
 
 
@@ -264,6 +297,32 @@ class Worked(unittest.TestCase):
         self.assertIsNone(regex._its_groups)
         self.assertEqual(regex.search("a").group(1), "a")
         self.assertIsNotNone(regex._its_groups)
+
+    def test_word_boundaries_against_re(self):
+        rnd, pairs, beyond = random.Random(11), 0, 0
+        for _ in range(WORD_PATTERNS):
+            pattern = random_words(rnd)
+            ours, theirs, rules = lazydfa.Regex(pattern), re.compile(pattern), lazydfa.RegexSet([pattern])
+            for _ in range(WORD_TEXTS):
+                # `re` finds nothing by \B in an empty text.
+                text = "".join(rnd.choice(SCRIPTS) for _ in range(rnd.randrange(1, 14)))
+                wanted = matches_by_re(theirs, text)
+                said = pattern, text
+                self.assertEqual(([it.span() for it in ours.finditer(text)], said), (wanted, said))
+                first = ours.search(text)
+                self.assertEqual((first and first.span(), said), (wanted[0] if wanted else None, said))
+                self.assertEqual((ours.is_match(text), rules.is_match(text), said), (bool(wanted), bool(wanted), said))
+                pairs, beyond = pairs + 1, beyond + (not text.isascii())
+        self.assertGreaterEqual((pairs, beyond), (20000, 20000))
+
+    def test_word_boundaries(self):
+        regex = lazydfa.Regex(r"\b(\w+)=(\w*)\b")
+        self.assertEqual([it.groups() for it in regex.finditer("ключ=знач, k=ü")], [("ключ", "знач"), ("k", "ü")])
+        self.assertEqual(lazydfa.Regex(rb"\bx").findall("éx x".encode()), [b"x", b"x"])
+        rules = lazydfa.RegexSet([r"\bfoo\b", "bar"])
+        self.assertEqual(rules.which("foo bar"), [0, 1])
+        with self.assertRaisesRegex(lazydfa.SearchError, "word boundary"):
+            rules.which("foo é")
 
     def test_flags(self):
         self.assertTrue(lazydfa.Regex("É", case_insensitive=True).is_match("é"))

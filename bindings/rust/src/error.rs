@@ -42,7 +42,7 @@ pub enum BuildErrorKind {
     NotCompiled,
     /// There are too many states, patterns, groups or alternates, or the patterns exceed the size limit.
     TooLarge,
-    /// There is a Unicode word boundary, and
+    /// An NFA that the program built has a Unicode word boundary, and
     /// [`unicode_word_boundary`](crate::hybrid::dfa::Config::unicode_word_boundary) does not enable it.
     Unsupported,
     /// The cache capacity is below the minimum of one of the two DFAs, and

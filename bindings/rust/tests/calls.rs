@@ -343,8 +343,7 @@ fn texts_of_patterns() -> Tested {
     let place = (error.kind(), error.pattern(), error.span());
     assert_eq!(place, (BuildErrorKind::Syntax, Some(PatternID::must(1)), Some(2..3)));
     assert_eq!(error.to_string(), "unclosed group\n  é(b\n   ^");
-    let error = DFA::new(r"\bfoo").unwrap_err();
-    assert_eq!(error.kind(), BuildErrorKind::Unsupported);
+    assert_eq!(spans(&Regex::new(r"\bfoo")?, "éfoo foo"), [6..9]);
     let limit = thompson::Config::new().nfa_size_limit(Some(10));
     let error = Regex::builder().thompson(limit).build("abc").unwrap_err();
     assert_eq!(error.kind(), BuildErrorKind::TooLarge);

@@ -9,8 +9,10 @@ mod Slots
 mod States
 mod Streams
 mod Values
+mod Meant
 mod Written
 mod Opening
 mod Sharing
+mod Simulating
 mod Texts
 mod Narrowing

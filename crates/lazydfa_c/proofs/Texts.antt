@@ -1,7 +1,7 @@
 -- Opening a handle on the regex of texts, by the result of opening it on the regex of their NFA.
 use Rattle.std.proofs.Common.{ℕ, zero, suc, ◌≡◌, ◌∙◌, ◌<◌, List, Result, Ok, Err, IfOk, ap}
 use Rattle.std.proofs.Common.{arith, length, sym, subst, refl}
-use Rattle.std.specs.Prelude.{IfErr, OnErr, OnOk, Option, sum}
+use Rattle.std.specs.Prelude.{Bool, IfErr, OnErr, OnOk, Option, sum}
 use Rattle.automata_base.specs.Nfas.Nodes.{Automaton}
 use Rattle.automata_base.specs.declared.nfa.thompson.state.NfaError.{NfaError}
 use Rattle.automata_base.specs.declared.nfa.thompson.state.NfaError.TheVariants as nfa_error
@@ -25,7 +25,7 @@ use Rattle.lazydfa_c.specs.Statuses.{done_status, fault_status, nfa_code, plain,
 use Rattle.lazydfa_c.specs.Texts.{CannotCut, HasFault, HoldsTexts, IsCutError, IsFailure, IsForwardOnly}
 use Rattle.lazydfa_c.specs.Texts.{IsRegexErrorStatus, IsReportOfAll, LacksRegex}
 use Rattle.lazydfa_c.specs.Texts.{IsPatternFor, IsRegexFor, LacksNfa, LacksParts, MatchesNothing, NotText, OpensTexts}
-use Rattle.lazydfa_c.specs.Texts.{RegexFails}
+use Rattle.lazydfa_c.specs.Texts.{IsNfaFor, RegexFails, settings_for}
 use Rattle.lazydfa_c.specs.Texts.{TextsFail, WrongLengths, reading_of, texts_in}
 use Rattle.lazydfa_c.specs.declared.code.Code.TheVariants as code
 use Rattle.lazydfa_c.specs.declared.facts.Facts.{Facts}
@@ -153,14 +153,16 @@ module _ (o : Options) (nfa : Automaton) where
 module _ (o : Options) (options : TextOptions) (settings : Settings) (bytes lengths : List ℕ) where
   -- a regex is built from the NFA of the texts
   pub opens_texts :
-      (nfa : Automaton) (programs : Option Programs) (new : Handle) (from to : Report)
-      → sum lengths ≡ length bytes → IsNfaOf (reading_of options settings) (texts_in bytes lengths) nfa
-      → HasProgramsFor options.groups (config_of (reading_of options settings)) (texts_in bytes lengths) programs
-      → to ≡ from → HoldsRegex (HasPrograms programs (IsPatternFor options.forward_only o nfa)) new
+      (words : Bool) (nfa : Automaton) (programs : Option Programs) (new : Handle) (from to : Report)
+      → sum lengths ≡ length bytes → IsNfaFor (reading_of options settings) (texts_in bytes lengths) words nfa
+      → HasProgramsFor options.groups words (config_of (reading_of options settings)) (texts_in bytes lengths) programs
+      → to ≡ from
+      → HoldsRegex (HasPrograms programs words (IsPatternFor options.forward_only (settings_for words o) nfa)) new
       → HoldsTexts o options settings bytes lengths new × (to ≡ from)
-  opens_texts nfa programs new from to whole meant grouped same opened = (
+  opens_texts words nfa programs new from to whole meant grouped same opened = (
     record {
       whole = whole;
+      words = words;
       nfa = nfa;
       meant = meant;
       programs = programs;
@@ -172,12 +174,12 @@ module _ (o : Options) (options : TextOptions) (settings : Settings) (bytes leng
 
   -- no regex is built from it
   pub regex_lacks :
-      (nfa : Automaton) (old new : Handle) (from to : Report) (e : Status)
-      → IsNfaOf (reading_of options settings) (texts_in bytes lengths) nfa → IsReportOfAll to
-      → (new ≡ old) × IsNotOpened (IsRegexErrorStatus options.forward_only o nfa) e
+      (words : Bool) (nfa : Automaton) (old new : Handle) (from to : Report) (e : Status)
+      → IsNfaFor (reading_of options settings) (texts_in bytes lengths) words nfa → IsReportOfAll to
+      → (new ≡ old) × IsNotOpened (IsRegexErrorStatus options.forward_only (settings_for words o) nfa) e
       → (new ≡ old) × IsFailure e × LacksRegex o options settings bytes lengths from to e
-  regex_lacks nfa old new from to e meant all (kept, why) =
-      (kept, opening_fails options.forward_only o nfa e why, RegexFails nfa meant why all)
+  regex_lacks words nfa old new from to e meant all (kept, why) =
+      (kept, opening_fails options.forward_only (settings_for words o) nfa e why, RegexFails words nfa meant why all)
 
   -- the texts have no NFA
   pub texts_fail :

@@ -83,6 +83,7 @@ pub record IsRegexIn (contents : Contents) (handle : Handle) : Type 0 where
 abbrev pub HasNoExtras : (Makes : Regex → Type 0) → Contents → Type 0
 HasNoExtras Makes contents =
     Makes contents.pattern.regex × (contents.pattern.prefilter ≡ None) × (contents.programs ≡ None)
+    × (contents.words ≡ false)
 
 -- a regex of this kind, without needles or programs, whose iterations make no attempts to find matches at once
 abbrev pub MakesNoAttempts : (Makes : Regex → Type 0) → Contents → Type 0

@@ -20,7 +20,7 @@ use Rattle.regex_automata.specs.declared.tokens.error.TokenError.{TokenError}
 use Rattle.regex_automata.specs.declared.tokens.token.Token.{Token}
 use Rattle.patterns.specs.Searches.{IsAttempt, IsNarrowed}
 use Rattle.lazydfa_c.specs.Codes.{number_of}
-use Rattle.lazydfa_c.specs.Requests.{found_from, found_half, input_of}
+use Rattle.lazydfa_c.specs.Requests.{found_from, found_half}
 use Rattle.lazydfa_c.specs.Statuses.{plain, search_status, token_status}
 use Rattle.lazydfa_c.specs.declared.code.Code.TheVariants as code
 use Rattle.lazydfa_c.specs.declared.handle.Handle.{Handle}
@@ -125,7 +125,7 @@ abbrev pub ReadsHandle : {A : Type 0} → (Makes : Object → Result A Status �
     → (old new : Handle) → Result A Status → Type 0
 ReadsHandle Makes old new result = OnHandle (λ o p r. (p ≡ o) × Makes o r) (Err (plain code.Closed)) old new result
 
--- `lazydfa_find`: reports the result of `Regex::find`, and keeps its promises
+-- `lazydfa_find` by the DFAs: reports the result of `Regex::find`, and keeps its promises
 pub record ReportsMatch (found : Found) (input : Input) (s t : Searcher) (status : Status) : Type 0 where
   -- what `Regex::find` returns
   pub result : Result (Option Match) SearchError
@@ -142,7 +142,7 @@ pub record ReportsMatch (found : Found) (input : Input) (s t : Searcher) (status
   -- its search and its walk in pieces are unchanged
   pub pieces : t.pieces ≡ s.pieces
 
--- `lazydfa_is_match`: the result of `Regex::is_match`
+-- `lazydfa_is_match` by the DFAs: the result of `Regex::is_match`
 pub record Tests (input : Input) (s t : Searcher) (status : Status) : Type 0 where
   -- what `Regex::is_match` returns
   pub result : Result Bool SearchError
@@ -159,7 +159,7 @@ pub record Tests (input : Input) (s t : Searcher) (status : Status) : Type 0 whe
   -- its search and its walk in pieces are unchanged
   pub pieces : t.pieces ≡ s.pieces
 
--- `lazydfa_find_end`: the result of a search of the forward DFA; the reverse cache is unchanged
+-- `lazydfa_find_end` by the DFAs: the result of a search of the forward DFA; the reverse cache is unchanged
 pub record FindsEnd (found : FoundHalf) (input : Input) (s t : Searcher) (status : Status) : Type 0 where
   -- the result of `DFA::try_search_fwd`: the pattern and the end of a match, or no match
   pub result : Result (Option HalfMatch) SearchError
@@ -267,16 +267,6 @@ GivesOrFindsNext found old new input s t status =
 abbrev pub NarrowedNext : Found → (old new : Iteration) → Input → Searcher → Searcher → Status → Type 0
 NarrowedNext found old new input s t status =
     OfNarrowed (GivesOrFindsNext found old new) (new ≡ iterated old (Ok None)) input s t status
-
--- `lazydfa_next`: the next match of an iteration
-pub record Iterates (haystack : List ℕ) (found : Found) (old new : Iteration) (s t : Searcher) (status : Status) :
-    Type 0 where
-  -- an iteration that has not ended searches the remaining input
-  pub searches : old.ended ≡ 0 → OfInput (NarrowedNext found old new) (input_of haystack old.left) s t status
-  -- an iteration that has ended is unchanged, and the status is `LAZYDFA_NONE`
-  pub over : (old.ended ≡ 0 → ⊥) → (t ≡ s) × (new ≡ old) × (status ≡ plain code.Nothing)
-  -- an iteration whose remaining input is not valid is unchanged
-  pub same : old.ended ≡ 0 → input_of haystack old.left ≡ None → new ≡ old
 
 -- the next token, or the reason why there is none, is reported
 abbrev pub IsTokenTold : (written : Found) → Option (Result Token TokenError) → Status → Type 0

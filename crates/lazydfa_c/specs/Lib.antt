@@ -9,6 +9,7 @@ pub mod Errors
 pub mod Groups
 pub mod Handles
 pub mod Held
+pub mod Laws
 pub mod Limits
 pub mod Pieces
 pub mod Programs
@@ -20,3 +21,4 @@ pub mod Tables
 pub mod Texts
 pub mod Facts
 pub mod Walks
+pub mod Words

@@ -1,5 +1,6 @@
 -- Contracts of the calls that build regexes of the texts of patterns.
 use Rattle.std.specs.Prelude.{ℕ, zero, suc, ◌≡◌, ◌≢◌, ◌==◌, ◌<◌, ◌≤◌, Bool, true, false, not, List, [], ◌∷◌, ◌++◌, All}
+use Rattle.std.specs.Prelude.{◌⊎◌}
 use Rattle.std.specs.Prelude.{IsCharBoundary, IsUtf8, Option, Some, Result, Ok, Err, drop, if◌then◌else◌, length}
 use Rattle.std.specs.Prelude.{slice_get, string_bytes, sum, take}
 use Rattle.core.specs.Str.{IsValidUpTo}
@@ -45,8 +46,8 @@ size_limit_of options = if options.has_size_limit == 0 then 10485760 else option
 abbrev pub nest_limit_of : TextOptions → ℕ
 nest_limit_of options = if options.nest_limit == 0 then 32 else options.nest_limit
 
--- the options for parsing texts: any number of C but 0 is true, `no_unicode` and `bytes` turn an option off, and a
--- Unicode word boundary is allowed if the settings allow it
+-- the options for parsing texts: any number of C but 0 is true, `no_unicode` and `bytes` turn an option off, and the
+-- DFAs alone search for a Unicode word boundary if the settings say so
 abbrev pub reading_of : TextOptions → Settings → Reading
 reading_of options settings = record {
   unicode = options.no_unicode == 0;
@@ -64,6 +65,35 @@ reading_of options settings = record {
   cache_capacity = capacity_of settings;
   cache_limit = limit_of settings;
 }
+
+-- the options for texts of which some has a Unicode word boundary are those for ASCII haystacks
+abbrev pub reading_for : (words : Bool) → Reading → Reading
+reading_for false reading = reading
+reading_for true reading = record reading { ascii = true }
+
+-- the settings for texts of which some has a Unicode word boundary allow it: other bytes than ASCII are quit bytes
+abbrev pub settings_for : (words : Bool) → Options → Options
+settings_for false o = o
+settings_for true o = record o { unicode_word_boundary = Some true }
+
+-- the fault is only that the DFAs do not support a look
+abbrev pub IsLook : Fault → Type 0
+IsLook fault = (fault ≡ UnicodeWord) ⊎ (fault ≡ Malformed)
+
+-- the flag is true only if these texts have no NFA because of a Unicode word boundary
+abbrev pub AreWords : Reading → (texts : List (List ℕ)) → (words : Bool) → Type 0
+AreWords reading texts false = Unit {0}
+AreWords reading texts true = (error : PatternError) × IsNfaFault reading texts error × IsLook error.fault
+
+-- this is the NFA of texts: if some text has a Unicode word boundary, as the flag says, that for ASCII haystacks
+abbrev pub IsNfaFor : Reading → (texts : List (List ℕ)) → (words : Bool) → Automaton → Type 0
+IsNfaFor reading texts words nfa = AreWords reading texts words × IsNfaOf (reading_for words reading) texts nfa
+
+-- why texts have no NFA, neither for every haystack nor, if that is only because of a Unicode word boundary, for ASCII
+-- ones
+abbrev pub LacksNfaFor : Reading → (texts : List (List ℕ)) → PatternError → Type 0
+LacksNfaFor reading texts error =
+    (words : Bool) × AreWords reading texts words × IsNfaFault (reading_for words reading) texts error
 
 -- the status says that a call failed
 abbrev pub IsFailure : Status → Type 0
@@ -164,7 +194,7 @@ pub data LacksNfa (reading : Reading) (bytes lengths : List ℕ) (old new : Repo
       → LacksNfa reading bytes lengths old new status
   -- one of them is not a pattern, or the patterns cannot be joined
   HasFault :
-      (error : PatternError) → IsNfaFault reading (texts_in bytes lengths) error → status ≡ fault_status error.fault
+      (error : PatternError) → LacksNfaFor reading (texts_in bytes lengths) error → status ≡ fault_status error.fault
       → new.refusal ≡ refusal_of error (length (string_bytes new.message))
       → LacksNfa reading bytes lengths old new status
 
@@ -181,8 +211,8 @@ pub data LacksRegex (o : Options) (options : TextOptions) (settings : Settings) 
       → LacksRegex o options settings bytes lengths from to status
   -- no regex is built from their NFA; the message is about all texts
   RegexFails :
-      (nfa : Automaton) → IsNfaOf (reading_of options settings) (texts_in bytes lengths) nfa
-      → IsNotOpened (IsRegexErrorStatus options.forward_only o nfa) status → IsReportOfAll to
+      (words : Bool) (nfa : Automaton) → IsNfaFor (reading_of options settings) (texts_in bytes lengths) words nfa
+      → IsNotOpened (IsRegexErrorStatus options.forward_only (settings_for words o) nfa) status → IsReportOfAll to
       → LacksRegex o options settings bytes lengths from to status
 
 -- the regex of texts is that of an NFA that matches what the texts mean
@@ -190,17 +220,20 @@ pub record HoldsTexts (o : Options) (options : TextOptions) (settings : Settings
     (handle : Handle) : Type 0 where
   -- the lengths add up to the length of all texts
   pub whole : sum lengths ≡ length bytes
+  -- whether some text has a Unicode word boundary, which the settings do not allow
+  pub words : Bool
   -- the NFA
   pub nfa : Automaton
-  -- it matches what the texts mean
-  pub meant : IsNfaOf (reading_of options settings) (texts_in bytes lengths) nfa
+  -- it matches what the texts mean, in ASCII haystacks if some text has a Unicode word boundary
+  pub meant : IsNfaFor (reading_of options settings) (texts_in bytes lengths) words nfa
   -- the programs
   pub programs : Option Programs
-  -- if groups are asked for, they find those of the texts
+  -- if groups are asked for, or some text has a Unicode word boundary, they find the matches and groups of the texts
   pub grouped :
-      HasProgramsFor options.groups (config_of (reading_of options settings)) (texts_in bytes lengths) programs
+      HasProgramsFor options.groups words (config_of (reading_of options settings)) (texts_in bytes lengths) programs
   -- the handle is open on the regex of the NFA, with the programs
-  pub holds : HoldsRegex (HasPrograms programs (IsPatternFor options.forward_only o nfa)) handle
+  pub holds :
+      HoldsRegex (HasPrograms programs words (IsPatternFor options.forward_only (settings_for words o) nfa)) handle
 
 -- the handle is opened on the regex of texts, or is unchanged, and the status says why there is no such regex
 abbrev pub OpensTexts : Options → TextOptions → Settings → (bytes lengths : List ℕ) → (old new : Handle)

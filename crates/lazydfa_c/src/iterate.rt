@@ -1,10 +1,11 @@
 //! Iterations over the matches of an input.
 ghost use Rattle.std.specs.Prelude.{◌≡◌, Ok, Some};
 ghost use Rattle.lazydfa_c.specs.Batches.{InTurn};
-ghost use Rattle.lazydfa_c.specs.Calls.{Iterates, KeepsUnlessCache, KeepsUnlessOpen, NarrowedNext, OfHandle, OfObject};
+ghost use Rattle.lazydfa_c.specs.Calls.{KeepsUnlessCache, KeepsUnlessOpen, NarrowedNext, OfHandle, OfObject};
 ghost use Rattle.lazydfa_c.specs.Calls.{WritesIfDone, iterated, last_of};
 ghost use Rattle.lazydfa_c.specs.Requests.{found_from};
 ghost use Rattle.lazydfa_c.specs.Statuses.{plain};
+ghost use Rattle.lazydfa_c.specs.Words.{FindsNextOf, Iterates};
 ghost use Rattle.lazydfa_c.specs.declared.code.Code.TheVariants as code;
 
 use crate::code::Code;
@@ -28,7 +29,7 @@ pub struct Iteration {
 
 impl Iteration {
     /// Writes a match, and advances an iteration past it.
-    fn give(&mut self, it: Match, found: &mut Found) -> Status
+    pub(crate) fn give(&mut self, it: Match, found: &mut Found) -> Status
         ensures iterated { self.new ≡ iterated self.old (Ok (Some it)) }
         ensures found { found.new ≡ found_from it }
         ensures status { result ≡ plain code.Done }
@@ -41,7 +42,7 @@ impl Iteration {
     }
 
     /// Returns the offset where the last match ended, if there was one.
-    fn last(&self) -> Option<usize>
+    pub(crate) fn last(&self) -> Option<usize>
         ensures { result ≡ last_of self.now }
     {
         if self.has_last == 0 {
@@ -89,6 +90,28 @@ impl Searcher {
         }
     }
 
+    /// Searches for the next match of an iteration that has not ended, and writes it. The programs find it where the
+    /// DFAs cannot. If there is no match, or the search fails, the iteration ends.
+    fn next_of(&mut self, input: &Input<'_>, at: &mut Iteration, found: &mut Found) -> Status
+        ensures found { FindsNextOf found.new at.old at.new input.now self.old self.new result }
+        ensures written { WritesIfDone found.old found.new result }
+    {
+        if !self.can_simulate(input) {
+            return self.go_on(input, at, found);
+        }
+        at.mark(input);
+        if !at.is_ascii() {
+            return self.next_by_programs(input, at, found);
+        }
+        let marked = *at;
+        let status = self.go_on(input, at, found);
+        if status.is_failure() {
+            *at = marked;
+            return self.next_by_programs(input, at, found);
+        }
+        status
+    }
+
     /// Searches for the next match of an iteration, and writes it. The status is `Code::Nothing` if there is no match
     /// or the iteration has ended, and `Code::Argument` if the remaining span does not lie in the haystack.
     fn next(&mut self, haystack: &[u8], at: &mut Iteration, found: &mut Found) -> Status
@@ -99,7 +122,7 @@ impl Searcher {
             return Status::from(Code::Nothing);
         }
         match at.left.input(haystack) {
-            Some(input) => self.go_on(&input, at, found),
+            Some(input) => self.next_of(&input, at, found),
             None => Status::from(Code::Argument),
         }
     }

@@ -15,6 +15,7 @@ mod groups;
 mod handle;
 mod input;
 mod iterate;
+pub mod laws;
 mod limits;
 mod loose;
 mod names;
@@ -34,5 +35,6 @@ mod tokens;
 mod usage;
 mod walk;
 mod walks;
+mod words;
 
 pub use handle::Handle;

@@ -15,11 +15,14 @@ use std::sync::Arc;
 
 /// A regex that handles and caches share, on any threads. If it was built from texts, it may have needles, at which
 /// searches begin. If it was built from texts or from one NFA, iterations may attempt to find matches at once. If groups
-/// were asked for, it has the programs that find them.
+/// were asked for, or some text has a Unicode word boundary, it has the programs that find groups and matches.
 #[derive(Drop)]
 pub struct Shared {
     pub pattern: Arc<Pattern>,
     pub programs: Option<Arc<Programs>>,
+    /// Whether some text has a Unicode word boundary, which the DFAs decide only in ASCII haystacks. The programs answer
+    /// where the DFAs cannot.
+    pub words: bool,
 }
 
 /// The memory in which the groups of matches are found.

@@ -132,15 +132,25 @@ pub fn open(
     handle: &mut Handle,
     pattern: Pattern,
     programs: Option<Programs>,
+    words: bool,
 ) -> Result<(), Status>
     requires { handle.now.slot.value ≡ None }
-    ensures opened { OnOk result (IsRegexIn (record { pattern = pattern; programs = programs }) handle.new) }
+    ensures opened { OnOk result
+        (IsRegexIn (record { pattern = pattern; programs = programs; words = words }) handle.new) }
     ensures same { OnErr result (handle.new ≡ handle.old) }
     ensures err { IfErr result (λ s. s ≡ plain code.Memory) }
 {
     let pattern = Arc::new(alloc, pattern)?;
     match share_programs(alloc, programs) {
-        Ok(programs) => open_shared(alloc, handle, Shared { pattern, programs }),
+        Ok(programs) => open_shared(
+            alloc,
+            handle,
+            Shared {
+                pattern,
+                programs,
+                words,
+            },
+        ),
         Err(error) => Err(Status::from(error)),
     }
 }
@@ -155,7 +165,7 @@ fn open_sound(alloc: Global, handle: &mut Handle, nfa: NFA, config: Config) -> R
     let regex = regex_of(nfa, config)?;
     let mut pattern = Pattern::from_regex(regex);
     pattern.try_first_bytes();
-    open(alloc, handle, pattern, None)
+    open(alloc, handle, pattern, None, false)
 }
 
 /// Opens a handle on the regex of two NFAs. An NFA with cycles through look-around assertions keeps its unions.
@@ -173,7 +183,7 @@ fn open_pair(
     let front = forward.keeping_unions();
     let back = reverse.keeping_unions();
     match pair_of(front, back, config) {
-        Ok(regex) => open(alloc, handle, Pattern::from_regex(regex), None),
+        Ok(regex) => open(alloc, handle, Pattern::from_regex(regex), None, false),
         Err(status) => Err(status),
     }
 }
@@ -333,12 +343,14 @@ fn share(shared: &Shared) -> Result<Shared, Status>
             Ok(programs) => Ok(Shared {
                 pattern,
                 programs: Some(programs),
+                words: shared.words,
             }),
             Err(error) => Err(Status::from(error)),
         },
         None => Ok(Shared {
             pattern,
             programs: None,
+            words: shared.words,
         }),
     }
 }
@@ -399,6 +411,7 @@ fn reversed(alloc: Global, shared: &Shared) -> Result<Shared, Status>
     Ok(Shared {
         pattern: Arc::new(alloc, Pattern::from_regex(regex))?,
         programs: None,
+        words: false,
     })
 }
 

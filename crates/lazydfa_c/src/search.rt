@@ -3,12 +3,14 @@ ghost use Rattle.patterns.specs.Searches.{IsNarrowed};
 ghost use Rattle.lazydfa_c.specs.Calls.{ReportsMatch, FindsEnd, FindsStartBack, OfHandle, OfInput, OfObject, Tests};
 ghost use Rattle.lazydfa_c.specs.Calls.{Narrowed, WritesIfDone};
 ghost use Rattle.lazydfa_c.specs.Requests.{input_of};
+ghost use Rattle.lazydfa_c.specs.Words.{FindsEndOf, FindsMatchOf, TestsFor};
 
 use crate::code::Code;
 use crate::handle::Handle;
 use crate::input::{Found, FoundHalf, Request};
 use crate::object::{Object, Searcher};
 use crate::status::Status;
+use crate::words::has_ascii;
 use regex_automata::Input;
 use std::alloc::Global;
 
@@ -20,8 +22,8 @@ impl Searcher {
         self.shared.pattern.narrow(input)
     }
 
-    /// Searches for the first match, and writes it. The status is `Code::Nothing` if there is none.
-    fn find(&mut self, input: &Input<'_>, found: &mut Found) -> Status
+    /// Searches for the first match by the DFAs, and writes it. The status is `Code::Nothing` if there is none.
+    fn find_by_dfas(&mut self, input: &Input<'_>, found: &mut Found) -> Status
         ensures found { Narrowed (ReportsMatch found.new) input.now self.old self.new result }
         ensures written { WritesIfDone found.old found.new result }
     {
@@ -39,9 +41,9 @@ impl Searcher {
         }
     }
 
-    /// Tests whether there is a match. The status is `Code::Done` if there is one, and `Code::Nothing` if there is
-    /// none.
-    fn is_match(&mut self, input: &Input<'_>) -> Status
+    /// Tests by the DFAs whether there is a match. The status is `Code::Done` if there is one, and `Code::Nothing` if
+    /// there is none.
+    fn test_by_dfas(&mut self, input: &Input<'_>) -> Status
         ensures { Narrowed Tests input.now self.old self.new result }
     {
         let Some(narrowed) = self.narrow(input) else {
@@ -57,7 +59,7 @@ impl Searcher {
 
     /// Searches for the end of the first match with the forward DFA, and writes it with its pattern. The status is
     /// `Code::Nothing` if there is no match.
-    fn find_end(&mut self, input: &Input<'_>, found: &mut FoundHalf) -> Status
+    fn find_end_by_dfas(&mut self, input: &Input<'_>, found: &mut FoundHalf) -> Status
         ensures found { Narrowed (FindsEnd found.new) input.now self.old self.new result }
         ensures written { WritesIfDone found.old found.new result }
     {
@@ -95,10 +97,66 @@ impl Searcher {
     }
 }
 
+impl Searcher {
+    /// Searches for the first match, and writes it. The programs find it where the DFAs cannot.
+    fn find(&mut self, input: &Input<'_>, found: &mut Found) -> Status
+        ensures found { FindsMatchOf found.new input.now self.old self.new result }
+        ensures written { WritesIfDone found.old found.new result }
+    {
+        if !self.can_simulate(input) {
+            return self.find_by_dfas(input, found);
+        }
+        if !has_ascii(input) {
+            return self.find_by_programs(input, found);
+        }
+        let status = self.find_by_dfas(input, found);
+        if status.is_failure() {
+            return self.find_by_programs(input, found);
+        }
+        status
+    }
+
+    /// Tests whether there is a match. The programs test it where the DFAs cannot.
+    fn is_match(&mut self, input: &Input<'_>) -> Status
+        ensures { TestsFor input.now self.old self.new result }
+    {
+        if !self.can_test(input) {
+            return self.test_by_dfas(input);
+        }
+        if !has_ascii(input) {
+            return self.test_by_programs(input);
+        }
+        let status = self.test_by_dfas(input);
+        if status.is_failure() {
+            return self.test_by_programs(input);
+        }
+        status
+    }
+
+    /// Searches for the end of the first match, and writes it with its pattern. The programs find it where the DFAs
+    /// cannot.
+    fn find_end(&mut self, input: &Input<'_>, found: &mut FoundHalf) -> Status
+        ensures found { FindsEndOf found.new input.now self.old self.new result }
+        ensures written { WritesIfDone found.old found.new result }
+    {
+        if !self.can_simulate(input) {
+            return self.find_end_by_dfas(input, found);
+        }
+        if !has_ascii(input) {
+            return self.find_end_by_programs(input, found);
+        }
+        let status = self.find_end_by_dfas(input, found);
+        if status.is_failure() {
+            return self.find_end_by_programs(input, found);
+        }
+        status
+    }
+}
+
 /// Searches for the first match of a request over a cache. The status is `Code::Kind` if the object is not a cache, and
 /// `Code::Argument` if the request is not a valid input for the haystack.
 fn find_in(object: &mut Object, haystack: &[u8], request: &Request, found: &mut Found) -> Status
-    ensures found { OfObject (OfInput (Narrowed (ReportsMatch found.new)) (input_of haystack.now request.now))
+    ensures found { OfObject (OfInput (FindsMatchOf found.new) (input_of haystack.now request.now))
         object.old object.new result }
     ensures written { WritesIfDone found.old found.new result }
 {
@@ -114,7 +172,7 @@ fn find_in(object: &mut Object, haystack: &[u8], request: &Request, found: &mut 
 /// Tests whether a request has a match, over a cache. The status is `Code::Kind` if the object is not a cache, and
 /// `Code::Argument` if the request is not a valid input for the haystack.
 fn is_match_in(object: &mut Object, haystack: &[u8], request: &Request) -> Status
-    ensures { OfObject (OfInput (Narrowed Tests) (input_of haystack.now request.now)) object.old object.new result }
+    ensures { OfObject (OfInput TestsFor (input_of haystack.now request.now)) object.old object.new result }
 {
     match object {
         Object::Searcher(searcher) => match request.input(haystack) {
@@ -133,7 +191,7 @@ fn find_end_in(
     request: &Request,
     found: &mut FoundHalf,
 ) -> Status
-    ensures found { OfObject (OfInput (Narrowed (FindsEnd found.new)) (input_of haystack.now request.now))
+    ensures found { OfObject (OfInput (FindsEndOf found.new) (input_of haystack.now request.now))
         object.old object.new result }
     ensures written { WritesIfDone found.old found.new result }
 {
@@ -176,7 +234,7 @@ pub extern "C" fn lazydfa_raw_find(
     request: &Request,
     found: &mut Found,
 ) -> Status
-    ensures found { OfHandle (OfInput (Narrowed (ReportsMatch found.new)) (input_of haystack.now request.now))
+    ensures found { OfHandle (OfInput (FindsMatchOf found.new) (input_of haystack.now request.now))
         cache.old cache.new result }
     ensures written { WritesIfDone found.old found.new result }
 {
@@ -196,7 +254,7 @@ pub extern "C" fn lazydfa_raw_is_match(
     haystack: &[u8],
     request: &Request,
 ) -> Status
-    ensures { OfHandle (OfInput (Narrowed Tests) (input_of haystack.now request.now)) cache.old cache.new result }
+    ensures { OfHandle (OfInput TestsFor (input_of haystack.now request.now)) cache.old cache.new result }
 {
     let Some(mut object) = cache.take(alloc) else {
         return Status::from(Code::Closed);
@@ -215,7 +273,7 @@ pub extern "C" fn lazydfa_raw_find_end(
     request: &Request,
     found: &mut FoundHalf,
 ) -> Status
-    ensures found { OfHandle (OfInput (Narrowed (FindsEnd found.new)) (input_of haystack.now request.now))
+    ensures found { OfHandle (OfInput (FindsEndOf found.new) (input_of haystack.now request.now))
         cache.old cache.new result }
     ensures written { WritesIfDone found.old found.new result }
 {

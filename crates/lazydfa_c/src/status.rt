@@ -5,6 +5,7 @@ ghost use Rattle.lazydfa_c.specs.Errors.{TellErrors, told_begin, told_build, tol
 ghost use Rattle.lazydfa_c.specs.Errors.{told_regex, told_search, told_token};
 ghost use Rattle.lazydfa_c.specs.Statuses.{begin_status, build_status, builder_status, done_status, nfa_code, plain};
 ghost use Rattle.lazydfa_c.specs.Statuses.{regex_status, search_status, start_status, status_at, token_status};
+ghost use Rattle.lazydfa_c.specs.Texts.{IsFailure};
 ghost use Rattle.lazydfa_c.specs.declared.code.Code.TheVariants as code;
 
 use crate::code::Code;
@@ -58,6 +59,13 @@ impl Status {
         ensures { IsTrue result ↔ (self.now.code ≡ number_of code.Done) }
     {
         self.code == 0
+    }
+
+    /// Whether a call failed.
+    pub fn is_failure(&self) -> bool
+        ensures { IsTrue result ↔ IsFailure self.now }
+    {
+        self.code > 1
     }
 
     /// Returns the status of a call whose result has no value.

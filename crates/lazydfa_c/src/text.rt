@@ -1,12 +1,13 @@
 //! Regexes built from the texts of patterns.
-ghost use Rattle.std.specs.Prelude.{◌≡◌, [], IfErr, IfOk, None, false, length, map, string_bytes, sum};
+ghost use Rattle.std.specs.Prelude.{◌≡◌, ◌↔◌, [], IfErr, IfOk, IsTrue, None, false, length, map, string_bytes, sum};
 ghost use Rattle.automata_config.specs.Options.{overwritten, unset};
 ghost use Rattle.patterns.specs.Patterns.{IsNfaOf, config_of};
 ghost use Rattle.lazydfa_c.specs.Builds.{OpensRegex};
 ghost use Rattle.lazydfa_c.specs.Limits.{admits};
 ghost use Rattle.lazydfa_c.specs.Programs.{HasPrograms, HasProgramsFor};
 ghost use Rattle.lazydfa_c.specs.Statuses.{fault_status};
-ghost use Rattle.lazydfa_c.specs.Texts.{BuildsAnyOf, BuildsTexts, HasFirstFault, IsCutError, IsPatternFor};
+ghost use Rattle.lazydfa_c.specs.Texts.{BuildsAnyOf, BuildsTexts, HasFirstFault, IsCutError, IsLook, IsNfaFor, IsPatternFor};
+ghost use Rattle.lazydfa_c.specs.Texts.{LacksNfaFor, reading_for, settings_for};
 ghost use Rattle.lazydfa_c.specs.Texts.{IsRegexErrorStatus, IsRegexFor};
 ghost use Rattle.lazydfa_c.specs.Texts.{IsReportOfAll, LacksNfa, OpensTexts, OpensWithin, WritesMessage};
 ghost use Rattle.lazydfa_c.specs.Texts.{nest_limit_of, none_refused};
@@ -312,21 +313,74 @@ pub(crate) fn write_message(message: &str, out: &mut [u8])
     out[end] = 0;
 }
 
-/// Compiles the programs that find the groups of texts, if groups are asked for. If it fails, it reports which text has
-/// an error. As `open_nfa`, it is not inlined.
+/// Returns the options for these texts: if some text has a Unicode word boundary, those for ASCII haystacks.
+fn for_words(options: &Options, words: bool) -> Options
+    ensures { result ≡ reading_for words options.now }
+{
+    if words {
+        Options {
+            ascii: true,
+            ..*options
+        }
+    } else {
+        *options
+    }
+}
+
+/// Returns the configuration for these texts: if some text has a Unicode word boundary, one that allows it.
+fn config_for(config: Config, words: bool) -> Config
+    ensures { overwritten unset result ≡ settings_for words (overwritten unset config) }
+{
+    if words {
+        config.unicode_word_boundary(true)
+    } else {
+        config
+    }
+}
+
+/// Whether a fault is only that the lazy DFAs do not support a look.
+fn is_look(fault: &Fault) -> bool
+    ensures { IsTrue result ↔ IsLook fault.now }
+{
+    matches!(fault, Fault::UnicodeWord | Fault::Malformed)
+}
+
+/// Builds the NFA of texts. If some of them has a Unicode word boundary, and the options do not allow that, it is the NFA
+/// for ASCII haystacks; the flag says whether it is.
+fn nfa_for(alloc: Global, texts: &[&str], options: &Options) -> Result<(NFA, bool), PatternError>
+    ensures meant { IfOk result (λ made.
+        IsNfaFor options.now (map (λ text. text.now) texts.now) made.1 made.0) }
+    ensures refused { IfErr result (LacksNfaFor options.now (map (λ text. text.now) texts.now)) }
+{
+    match nfa_of(alloc, texts, options) {
+        Ok(nfa) => Ok((nfa, false)),
+        Err(error) if is_look(&error.fault) => {
+            match nfa_of(alloc, texts, &for_words(options, true)) {
+                Ok(nfa) => Ok((nfa, true)),
+                Err(error) => Err(error),
+            }
+        }
+        Err(error) => Err(error),
+    }
+}
+
+/// Compiles the programs of texts, if groups are asked for or some text has a Unicode word boundary. If it fails, it
+/// reports which text has an error. As `open_nfa`, it is not inlined.
 #[inline(never)]
 fn programs_for(
     alloc: Global,
     texts: &[&str],
     options: &Options,
     groups: u32,
+    words: bool,
     report: &mut Report,
 ) -> Result<Option<Programs>, Status>
-    ensures made { IfOk result (HasProgramsFor groups (config_of options.now) (map (λ text. text.now) texts.now)) }
+    ensures made { IfOk result
+        (HasProgramsFor groups words (config_of options.now) (map (λ text. text.now) texts.now)) }
     ensures kept { IfOk result (λ _. report.new ≡ report.old) }
     ensures err { IfErr result (HasFirstFault options.now (map (λ text. text.now) texts.now) report.new) }
 {
-    if groups == 0 {
+    if groups == 0 && !words {
         return Ok(None);
     }
     match Programs::new(alloc, texts, options) {
@@ -338,8 +392,8 @@ fn programs_for(
     }
 }
 
-/// Splits concatenated texts, and builds the NFA of their patterns, and their programs if groups are asked for. If it
-/// fails, it reports which text has an error.
+/// Splits concatenated texts, and builds the NFA of their patterns, and their programs if groups are asked for or some
+/// text has a Unicode word boundary; the flag says whether one has. If it fails, it reports which text has an error.
 fn compile_texts<'t>(
     alloc: Global,
     texts: &'t [u8],
@@ -347,19 +401,23 @@ fn compile_texts<'t>(
     options: &Options,
     groups: u32,
     report: &mut Report,
-) -> Result<(Vec<&'t str>, NFA, Option<Programs>), Status>
+) -> Result<(Vec<&'t str>, NFA, Option<Programs>, bool), Status>
     ensures whole { IfOk result (λ _. sum lengths.now ≡ length texts.now) }
     ensures parts { IfOk result (λ r. map (λ text. text.now) r.0.items ≡ texts_in texts.now lengths.now) }
-    ensures meant { IfOk result (λ r. IsNfaOf options.now (texts_in texts.now lengths.now) r.1) }
+    ensures meant { IfOk result (λ r. IsNfaFor options.now (texts_in texts.now lengths.now) r.3 r.1) }
     ensures programs { IfOk result (λ r.
-        HasProgramsFor groups (config_of options.now) (texts_in texts.now lengths.now) r.2) }
+        HasProgramsFor groups r.3 (config_of options.now) (texts_in texts.now lengths.now) r.2) }
     ensures kept { IfOk result (λ _. report.new ≡ report.old) }
     ensures err { IfErr result (LacksNfa options.now texts.now lengths.now report.old report.new) }
 {
     let parts = cut(alloc, texts, lengths, &mut report.refusal)?;
-    let programs = programs_for(alloc, parts.as_slice(), options, groups, report)?;
-    match nfa_of(alloc, parts.as_slice(), options) {
-        Ok(nfa) => Ok((parts, nfa, programs)),
+    match nfa_for(alloc, parts.as_slice(), options) {
+        Ok((nfa, words)) => {
+            match programs_for(alloc, parts.as_slice(), options, groups, words, report) {
+                Ok(programs) => Ok((parts, nfa, programs, words)),
+                Err(status) => Err(status),
+            }
+        }
         Err(error) => {
             *report = Report::of(alloc, &error, parts.as_slice(), options);
             Err(status_of(&error))
@@ -412,18 +470,19 @@ fn open_nfa(
     options: &Options,
     nfa: NFA,
     programs: Option<Programs>,
+    words: bool,
     config: Config,
     forward_only: u32,
 ) -> Result<(), Status>
     requires closed { regex.now.slot.value ≡ None }
     requires meant { IsNfaOf options.now (map (λ text. text.now) texts.now) nfa }
-    ensures { OpensRegex (HasPrograms programs (IsPatternFor forward_only (overwritten unset config) nfa))
+    ensures { OpensRegex (HasPrograms programs words (IsPatternFor forward_only (overwritten unset config) nfa))
         (IsRegexErrorStatus forward_only (overwritten unset config) nfa) regex.old regex.new result }
 {
     match regex_for(alloc, nfa, config, forward_only) {
         Ok(built) => {
             let pattern = pattern_for(alloc, built, texts, options, forward_only);
-            open(alloc, regex, pattern, programs)
+            open(alloc, regex, pattern, programs, words)
         }
         Err(status) => Err(status),
     }
@@ -447,15 +506,16 @@ fn open_texts(
 {
     let reading = options.options(settings);
     let read = compile_texts(alloc, texts, lengths, &reading, options.groups, report)?;
-    let (parts, nfa, programs) = read;
+    let (parts, nfa, programs, words) = read;
     match open_nfa(
         alloc,
         regex,
         parts.as_slice(),
-        &reading,
+        &for_words(&reading, words),
         nfa,
         programs,
-        config,
+        words,
+        config_for(config, words),
         options.forward_only,
     ) {
         Ok(()) => Ok(()),

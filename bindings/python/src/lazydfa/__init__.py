@@ -504,10 +504,6 @@ class RegexSet(_Automaton[AnyStr]):
         _check(status)
         return found[: count.value]
 
-    def is_match(self, text: AnyStr) -> bool:
-        """Returns whether some pattern matches somewhere in the text."""
-        return bool(self.which(text))
-
 
 class Lexer(_Automaton[AnyStr]):
     """Rules by which a text is cut into tokens, without gaps. Of the rules that match at an offset, the first is taken.

@@ -52,8 +52,10 @@ impl Config {
         self
     }
 
-    /// Sets whether a pattern may have a Unicode word boundary, which is then decided like an ASCII one, with
-    /// every byte from 0x80 on a quit byte. By default such a pattern is an error.
+    /// Sets whether a Unicode word boundary is decided by the DFAs alone, like an ASCII one, with every byte from
+    /// 0x80 on a quit byte. By default a pattern with one is simulated in a haystack that is not ASCII, for
+    /// searches of a `Regex` that are unanchored, not earliest, and end with the haystack; other searches quit at
+    /// the byte. An NFA with one that a program builds itself is an error by default.
     pub fn unicode_word_boundary(mut self, yes: bool) -> Config {
         self.settings.unicode_word_boundary = yes.into();
         self

@@ -2,7 +2,7 @@
 use lazydfa::hybrid::dfa::{self, DFA};
 use lazydfa::hybrid::regex::{Builder, Regex};
 use lazydfa::util::syntax;
-use lazydfa::{BuildError, BuildErrorKind, Input, MatchError, MatchErrorKind, MatchKind, PatternSet};
+use lazydfa::{BuildError, Input, MatchError, MatchErrorKind, MatchKind, PatternSet};
 use std::ops::Range;
 
 /// A row that a reader finds in a file.
@@ -90,9 +90,6 @@ impl Case {
             Ok(found) if found == self.wanted => Outcome::Equal,
             Err(Failure::Built(_)) if self.wanted == Wanted::NoPattern => Outcome::Equal,
             Ok(found) => self.differs(&format!("{found:?}")),
-            Err(Failure::Built(error)) if error.kind() == BuildErrorKind::Unsupported => {
-                Outcome::LeftOut("a Unicode word boundary".into())
-            }
             Err(Failure::Built(error)) => self.differs(&error.to_string()),
             Err(Failure::Searched(error)) if matches!(error.kind(), MatchErrorKind::Quit { .. }) => {
                 Outcome::LeftOut("a Unicode word boundary in text that is not ASCII".into())
@@ -114,7 +111,7 @@ impl Case {
 
     /// Returns the result, of the same kind as the expected one.
     fn answer(&self) -> Result<Wanted, Failure> {
-        let config = dfa::Config::new().unicode_word_boundary(true);
+        let config = dfa::Config::new();
         if let Wanted::Which(_) = self.wanted {
             let config = config.match_kind(MatchKind::All);
             let dfa = DFA::builder().configure(config).syntax(self.syntax()).build_many(&self.patterns)?;

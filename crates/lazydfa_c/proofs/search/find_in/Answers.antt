@@ -1,15 +1,16 @@
 use Rattle.std.proofs.Common.{◌∙◌, subst, sym}
-use Rattle.lazydfa_c.specs.Calls.{Narrowed, OfInput, OfObject, ReportsMatch}
+use Rattle.lazydfa_c.specs.Calls.{OfInput, OfObject}
 use Rattle.lazydfa_c.specs.Requests.{input_of}
+use Rattle.lazydfa_c.specs.Words.{FindsMatchOf}
 use Rattle.lazydfa_c.specs.declared.object.Object.{Object}
 use Rattle.lazydfa_c.specs.declared.object.Object.TheVariants.{Searcher as CacheObject}
 use Rattle.lazydfa_c.proofs.search.find_in.Goals as goal
 
 pub returns-in-Some-clause-found : goal.returns-in-Some-clause-found
 returns-in-Some-clause-found c =
-    subst (λ (o : Object). OfObject (OfInput (Narrowed (ReportsMatch c.find.new.found))
+    subst (λ (o : Object). OfObject (OfInput (FindsMatchOf c.find.new.found)
     (input_of c.args.haystack.now c.args.request.now)) o (CacheObject c.find.new.self) c.find.result)
     (sym c.in-Searcher.is)
-    (subst (λ i. OfInput (Narrowed (ReportsMatch c.find.new.found)) i c.in-Searcher.searcher c.find.new.self
+    (subst (λ i. OfInput (FindsMatchOf c.find.new.found) i c.in-Searcher.searcher c.find.new.self
     c.find.result)
     (sym c.in-Some.is ∙ c.input.ensures) c.find.ensures.found)

@@ -13,13 +13,15 @@ pattern_for-pattern-requires c =
 
 pub returns-in-Ok : goal.returns-in-Ok
 returns-in-Ok c =
-    opens _ _ (record { pattern = c.pattern_for-pattern.result; programs = c.args.programs }) c.args.regex.now
-    c.open.new.handle c.open.result (
+    opens _ _
+    (record { pattern = c.pattern_for-pattern.result; programs = c.args.programs; words = c.args.words })
+    c.args.regex.now c.open.new.handle c.open.result (
       (
         subst (IsRegexFor c.args.forward_only (overwritten unset c.args.config) c.args.nfa)
             (sym c.pattern_for-pattern.ensures.regex) c.in-Ok.ensures.built,
         c.pattern_for-pattern.ensures.waits,
       ),
+      refl,
       refl,
     )
     c.open.ensures.opened c.open.ensures.same c.open.ensures.err

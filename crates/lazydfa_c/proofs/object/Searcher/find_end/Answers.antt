@@ -1,80 +1,39 @@
-use Rattle.std.proofs.Common.{rules, refl, Some, None, subst}
-use Rattle.std.specs.Prelude.{Ok, Err}
-use Rattle.automata_base.specs.declared.util.search.Direction.TheVariants.{Forward}
-use Rattle.automata_hybrid.specs.Cache.Caches.{CacheView}
-use Rattle.automata_hybrid.specs.Machines.Machine.{Machine}
-use Rattle.automata_hybrid.specs.Known.Passes.{IsSearchRun}
-use Rattle.automata_hybrid.specs.Known.Stores.{known_of}
-use Rattle.patterns.specs.declared.pattern.Pattern.{Pattern}
-use Rattle.lazydfa_c.specs.Calls.{FindsNoStart, SearchesNarrowed}
-use Rattle.lazydfa_c.proofs.Narrowing.{narrowed, nowhere}
+use Rattle.std.proofs.Common.{◌∙◌, subst, sym, true≢false}
+use Rattle.std.specs.Prelude.{IsAscii, MatchBool}
+use Rattle.std.specs.Str.{IsNotAscii}
+use Rattle.lazydfa_c.specs.Words.{AfterFailure, ByDfas, BySimulation, SimulatesEnd}
+use Rattle.lazydfa_c.proofs.Simulating.{end_keeps}
 use Rattle.lazydfa_c.proofs.object.Searcher.find_end.Goals as goal
 
-pub returns-in-Ok-Some-clause-found : goal.returns-in-Ok-Some-clause-found
-returns-in-Ok-Some-clause-found c =
-    SearchesNarrowed c.in-Some.narrowed
-    (narrowed c.args.self.now.shared.pattern.value c.args.input.now c.in-Some.narrowed c.narrow.result c.in-Some.is
-    c.narrow.ensures) (record {
-      result = Ok (Some c.in-Ok-Some.half);
-      told = search rules;
-      returned = search rules;
-      effect =
-          subst (λ (v : Pattern). IsSearchRun Forward v.regex.forward c.in-Some.narrowed
-          (known_of c.args.self.now.cache.forward)
-          (known_of c.try_search_fwd.new.cache) None) c.deref.ensures
-          (subst (λ (m : Machine). IsSearchRun Forward m c.in-Some.narrowed (known_of c.args.self.now.cache.forward)
-          (known_of c.try_search_fwd.new.cache) None) c.forward-dfa.ensures
-          (subst (λ (v : CacheView). IsSearchRun Forward c.forward-dfa.result.now c.in-Some.narrowed (known_of v)
-          (known_of c.try_search_fwd.new.cache) None) c.forward_mut.ensures.value c.in-Ok-Some.ensures.effect));
-      reverse = search rules;
-      same = search rules;
-      pieces = search rules;
-    })
+pub returns-then-not-can_simulate-clause-found : goal.returns-then-not-can_simulate-clause-found
+returns-then-not-can_simulate-clause-found c =
+    ByDfas c.find_end_by_dfas.ensures.found
+    (λ can. absurd (true≢false (sym can ∙ sym c.can_simulate.ensures ∙ c.if-not-can_simulate.true)))
 
-pub returns-in-Ok-None-clause-found : goal.returns-in-Ok-None-clause-found
-returns-in-Ok-None-clause-found c =
-    SearchesNarrowed c.in-Some.narrowed
-    (narrowed c.args.self.now.shared.pattern.value c.args.input.now c.in-Some.narrowed c.narrow.result c.in-Some.is
-    c.narrow.ensures) (record {
-      result = Ok None;
-      told = search rules;
-      returned = search rules;
-      effect =
-          subst (λ (v : Pattern). IsSearchRun Forward v.regex.forward c.in-Some.narrowed
-          (known_of c.args.self.now.cache.forward)
-          (known_of c.try_search_fwd.new.cache) None) c.deref.ensures
-          (subst (λ (m : Machine). IsSearchRun Forward m c.in-Some.narrowed (known_of c.args.self.now.cache.forward)
-          (known_of c.try_search_fwd.new.cache) None) c.forward-dfa.ensures
-          (subst (λ (v : CacheView). IsSearchRun Forward c.forward-dfa.result.now c.in-Some.narrowed (known_of v)
-          (known_of c.try_search_fwd.new.cache) None) c.forward_mut.ensures.value c.in-Ok-None.ensures.effect));
-      reverse = search rules;
-      same = search rules;
-      pieces = search rules;
-    })
+pub returns-then-not-has_ascii-clause-found : goal.returns-then-not-has_ascii-clause-found
+returns-then-not-has_ascii-clause-found c =
+    let hay = c.args.input.now.haystack in
+    BySimulation (sym c.can_simulate.ensures ∙ c.if-not-can_simulate.false)
+    (subst (λ b. MatchBool b (IsAscii hay) (IsNotAscii hay)) c.if-not-has_ascii.true c.has_ascii.ensures)
+    c.find_end_by_programs.ensures.means c.find_end_by_programs.ensures.keeps
 
-pub returns-in-Err-clause-found : goal.returns-in-Err-clause-found
-returns-in-Err-clause-found c =
-    SearchesNarrowed c.in-Some.narrowed
-    (narrowed c.args.self.now.shared.pattern.value c.args.input.now c.in-Some.narrowed c.narrow.result c.in-Some.is
-    c.narrow.ensures) (record {
-      result = Err c.in-Err.error;
-      told = search rules;
-      returned = search rules;
-      effect =
-          subst (λ (v : Pattern). IsSearchRun Forward v.regex.forward c.in-Some.narrowed
-          (known_of c.args.self.now.cache.forward)
-          (known_of c.try_search_fwd.new.cache) (Some c.in-Err.error)) c.deref.ensures
-          (subst (λ (m : Machine). IsSearchRun Forward m c.in-Some.narrowed (known_of c.args.self.now.cache.forward)
-          (known_of c.try_search_fwd.new.cache) (Some c.in-Err.error)) c.forward-dfa.ensures
-          (subst (λ (v : CacheView). IsSearchRun Forward c.forward-dfa.result.now c.in-Some.narrowed (known_of v)
-          (known_of c.try_search_fwd.new.cache) (Some c.in-Err.error)) c.forward_mut.ensures.value
-          c.in-Err.ensures.effect));
-      reverse = search rules;
-      same = search rules;
-      pieces = search rules;
-    })
+pub returns-then-is_failure-clause-found : goal.returns-then-is_failure-clause-found
+returns-then-is_failure-clause-found c =
+    let hay = c.args.input.now.haystack in let asked = c.find_end_by_programs-then-is_failure in
+    AfterFailure (sym c.can_simulate.ensures ∙ c.if-not-can_simulate.false)
+    (subst (λ b. MatchBool b (IsAscii hay) (IsNotAscii hay)) c.if-not-has_ascii.false c.has_ascii.ensures)
+    c.find_end_by_dfas-status.new.found c.find_end_by_dfas-status.new.self c.find_end_by_dfas-status.result
+    c.find_end_by_dfas-status.ensures.found
+    (c.is_failure.ensures.0 c.if-is_failure.true)
+    (subst (λ shared. SimulatesEnd asked.new.found c.args.input.now shared asked.result)
+    (end_keeps _ _ _ _ _ c.find_end_by_dfas-status.ensures.found) asked.ensures.means)
+    asked.ensures.keeps
 
-pub returns-in_default-clause-found : goal.returns-in_default-clause-found
-returns-in_default-clause-found c =
-    FindsNoStart (nowhere c.args.self.now.shared.pattern.value c.args.input.now c.narrow.result c.in_default.not-Some
-    c.narrow.ensures) refl c.from.ensures tt
+pub returns-clause-found : goal.returns-clause-found
+returns-clause-found c =
+    let hay = c.args.input.now.haystack in
+    ByDfas c.find_end_by_dfas-status.ensures.found
+    (λ can. (
+      subst (λ b. MatchBool b (IsAscii hay) (IsNotAscii hay)) c.if-not-has_ascii.false c.has_ascii.ensures,
+      λ fails. absurd (true≢false (sym (c.is_failure.ensures.1 fails) ∙ c.if-is_failure.false)),
+    ))

@@ -1,5 +1,5 @@
 use Rattle.std.proofs.Common.{◌≡◌, ◌+◌, ◌<◌, length, arith, rules, true, false}
-use Rattle.lazydfa_c.specs.Calls.{Iterates}
+use Rattle.lazydfa_c.specs.Words.{Iterates}
 use Rattle.lazydfa_c.specs.Codes.{number_of}
 use Rattle.lazydfa_c.specs.declared.code.Code.TheVariants as code
 use Rattle.lazydfa_c.proofs.Batches.{filled, none_so_far, one_more, stopped}

@@ -1,4 +1,4 @@
-use Rattle.lazydfa_c.specs.Calls.{Iterates}
+use Rattle.lazydfa_c.specs.Words.{Iterates}
 use Rattle.lazydfa_c.proofs.Batches.{AreSoFar}
 use Rattle.lazydfa_c.proofs.object.Searcher.next_all.Given as goal
 
