@@ -2,6 +2,7 @@
 -- or not at all.
 use Rattle.std.specs.Prelude.{ℕ, ◌≡◌, ◌⊎◌, Bool, true, false, List, length, Option, Some, None, Result, Ok}
 use Rattle.std.specs.Prelude.{◌≤◌, IfErr, IfSome}
+use Rattle.std.specs.List.{Contains}
 use Rattle.std.specs.Option.{unwrap_or}
 use Rattle.std.specs.Result.{result_err}
 use Rattle.regex_extract.specs.Needles.{StartsWithNeedle}
@@ -33,6 +34,10 @@ AreNeedlesOf options texts needles =
 -- the others are needles of every pattern that has these needles
 abbrev pub MayReplace : (needles others : List (List ℕ)) → Type 0
 MayReplace needles others = (re : Re) → StartsWithNeedle re needles → StartsWithNeedle re others
+
+-- each needle that is in the first list is in the second
+abbrev pub KeepsNeedles : (old new : List (List ℕ)) → Type 0
+KeepsNeedles old new = (needle : List ℕ) → Contains old needle → Contains new needle
 
 -- of every pattern whose matches begin with one of these needles, they are near the start of every match
 abbrev pub AreNearFor : (needles : List (List ℕ)) → NearNeedles → Type 0
