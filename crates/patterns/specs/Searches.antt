@@ -21,7 +21,7 @@ use Rattle.regex_automata.specs.declared.hybrid.regex.caches.Cache.{Cache}
 use Rattle.meaning.specs.Patterns.{span_input}
 use Rattle.prefilters.specs.Needles.{AllHaveNeedleNear, AllStartWith, HasNeedleNear, NearNeedles}
 use Rattle.prefilters.specs.Skipping.{MaySkipAll, MaySkipTo}
-use Rattle.patterns.specs.Attempts.{IsAnchoredRun}
+use Rattle.patterns.specs.Attempts.{AreLaterRuns, IsAnchoredRun}
 use Rattle.patterns.specs.Patterns.{AreMeanings, config_of}
 use Rattle.patterns.specs.declared.compile.Options.{Options}
 use Rattle.patterns.specs.declared.pattern.Pattern.{Pattern}
@@ -89,12 +89,14 @@ HasBeginnings pattern = HasPrefilter pattern ⊎ (pattern.first_bytes ≡ None �
 abbrev pub IsCandidate : Pattern → Input → (at : ℕ) → Type 0
 IsCandidate pattern input at = HasBeginnings pattern × MaySkipTo (forward_engine pattern.regex) input at
 
--- an attempt to find the match of an input at once: no search, or an anchored one if the pattern has beginnings and
--- makes attempts at them
+-- an attempt to find the match of an input at once: no search, or an anchored one and perhaps further ones if the
+-- pattern has beginnings and makes attempts at them
 abbrev pub IsAttempt : Pattern → Input → (old new : Cache) → Type 0
 IsAttempt pattern input old new =
     (new ≡ old)
-    ⊎ ((pattern.attempts ≡ true) × HasBeginnings pattern × IsAnchoredRun pattern.regex input old new)
+    ⊎ ((pattern.attempts ≡ true) × HasBeginnings pattern
+    × (between : Cache) × IsAnchoredRun pattern.regex input old between
+    × AreLaterRuns pattern.regex input between new)
 
 -- an attempt to find the match of an input at once, and then a search of the input, unless the attempt has found it
 pub data IsSearchedAfter (pattern : Pattern) (input : Input) (old new : Cache) (Finds : Type 0)
