@@ -29,7 +29,8 @@ common_more xs ys i l m same e =
     ∙ sym (take_more ys i 0 m)
 
 -- bytes that a text begins with occur where the text occurs
-begins_there : (hay bytes text : List ℕ) (k : ℕ) → BeginsWith bytes text → OccursAt hay text k → OccursAt hay bytes k
+pub begins_there :
+    (hay bytes text : List ℕ) (k : ℕ) → BeginsWith bytes text → OccursAt hay text k → OccursAt hay bytes k
 begins_there hay bytes text k b o = record {
   fits = omega (arith, o.fits, ap length b.1, length-append bytes b.0);
   reads = λ j lt.

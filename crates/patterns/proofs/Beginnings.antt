@@ -1,10 +1,11 @@
 -- Patterns whose matches begin with needles: no match begins where no needle occurs.
 use Rattle.std.proofs.Common.{ℕ, ◌≡◌, ◌+◌, ◌<◌, ◌≤◌, List, [], ◌∷◌, ◌++◌, All, Bor, None, false, true, true≢false}
 use Rattle.std.proofs.Common.{Option, Some, IfSome, refl, sym, ap, ◌∙◌, subst, arith, length, map}
-use Rattle.std.proofs.Common.{take, get_or, add-one}
+use Rattle.std.proofs.Common.{take, get_or, add-one, le_refl, length-append}
+use Rattle.std.specs.List.{Contains}
 use Rattle.std.specs.Prelude.{Err, IfOk, Ok, Result, Vec}
 use Rattle.std.specs.declared.alloc.Global.{Global}
-use Rattle.std.proofs.lemmas.List.{length-map, map-append}
+use Rattle.std.proofs.lemmas.List.{get_or-map, get_or_default, length-map, map-append}
 use Rattle.std.proofs.lemmas.Option.{none-some, same_Some}
 use Rattle.std.proofs.lemmas.List.Elements.{All-cons}
 use Rattle.std.proofs.Math.Seq.{take-suc}
@@ -12,7 +13,7 @@ use Rattle.regex_hir.specs.Meaning.{meaning}
 use Rattle.regex_hir.specs.Re.{Re}
 use Rattle.regex_hir.specs.declared.hir.Hir as kit_hir
 use Rattle.regex_extract.specs.Needles.{StartsWithNeedle, needles_of}
-use Rattle.regex_literal.specs.Find.{needle_at}
+use Rattle.regex_literal.specs.Find.{OccursAt, needle_at}
 use Rattle.regex_syntax.specs.Captures.{SameCaptures}
 use Rattle.regex_syntax.specs.Grammar.{Names}
 use Rattle.regex_syntax.specs.Verdict.{Reads}
@@ -29,14 +30,14 @@ use Rattle.regex_automata.specs.declared.hybrid.regex.Regex.{Regex}
 use Rattle.meaning.specs.Patterns.{any_of}
 use Rattle.meaning.specs.Translated.{joined_engine}
 use Rattle.match_facts.specs.Prefixes.{BeginsWith}
-use Rattle.match_facts.proofs.Prefixes.{starts_with_one}
+use Rattle.match_facts.proofs.Prefixes.{begins_there, starts_with_one}
 use Rattle.prefilters.specs.Needles.{AllHaveNeedleNear, AllStartWith, BeginsNearNeedle, HasNeedleNear, NearNeedles}
 use Rattle.prefilters.specs.Skipping.{IsLazy, NoneBeginsAt}
 use Rattle.prefilters.proofs.Joining.{needles_grow, needles_join, starts_are_near}
 use Rattle.prefilters.proofs.Meaning.{meaning_none, needles_none}
 use Rattle.prefilters.proofs.Nowhere.{anchored_answers, anchored_none}
 use Rattle.patterns.specs.Patterns.{AreMeanings, IsJoinedNfa, config_of}
-use Rattle.patterns.specs.Searches.{AreNearFor, AreNeedlesOf, HaveNeedlesNear, MayReplace}
+use Rattle.patterns.specs.Searches.{AreNearFor, AreNeedlesOf, HaveNeedlesNear, KeepsNeedles, MayReplace}
 use Rattle.patterns.specs.declared.compile.Options.{Options}
 use Rattle.patterns.proofs.Searching.{looks_same}
 use Rattle.patterns.proofs.Trees.{same_matches, trees_same}
@@ -137,6 +138,42 @@ common_only vs bytes was now needle all is empty pushed re starts =
     (sym (ap (map (λ v. v.items)) (pushed ∙ ap (λ w. w ++ needle ∷ []) empty) ∙ ap (λ b. b ∷ []) is))
     (starts_with_one re (map (λ v. v.items) vs) bytes
     (λ n lt. all n (omega (arith, lt, length-map vs (λ v. v.items)))) starts)
+
+-- a needle as an item of the vector that has it
+pub needle_item :
+    (vs : List (Vec ℕ Global)) (i : ℕ) (v : Vec ℕ Global) → i < length vs → v ≡ get_or vs i v
+    → needle_at (map (λ w. w.items) vs) i ≡ v.items
+needle_item vs i v l e = get_or-map (λ w. w.items) vs i v [] l ∙ ap (λ w. w.items) (sym e)
+
+-- the list has a prefix of the needle
+abbrev pub HasPrefix : (needles : List (List ℕ)) → (needle : List ℕ) → Type 0
+HasPrefix needles needle = (bytes : List ℕ) × Contains needles bytes × BeginsWith bytes needle
+
+pub keeps_prefix :
+    (old new : List (List ℕ)) (needle : List ℕ) → KeepsNeedles old new → HasPrefix old needle → HasPrefix new needle
+keeps_prefix old new needle keeps (bytes, has, begins) = (bytes, keeps bytes has, begins)
+
+-- prefixes of the needles may replace them
+pub prefixes_replace :
+    (needles others : List (List ℕ))
+    → ((n : ℕ) → n < length needles → HasPrefix others (needle_at needles n)) → MayReplace needles others
+prefixes_replace needles others has re starts hay ok i j s =
+    let found = starts hay ok i j s in
+    let prefix = has found.0 found.1.numbered in
+    let bytes = prefix.0 in
+    let begins = prefix.2 in
+    let same : needle_at others prefix.1.0 ≡ bytes =
+    get_or_default others prefix.1.0 [] bytes prefix.1.1 ∙ prefix.1.2 in (
+      prefix.1.0,
+      record {
+        numbered = prefix.1.1;
+        occurs = subst (λ v. OccursAt hay v i) (sym same)
+            (begins_there hay bytes (needle_at needles found.0) i begins found.1.occurs);
+        low = le_refl i;
+        high = let h = found.1.high in
+            omega (arith, h, ap length begins.1, length-append bytes begins.0, ap length same);
+      },
+    )
 
 -- needles of more texts
 split_meanings :

@@ -2,6 +2,7 @@
 -- or not at all.
 use Rattle.std.specs.Prelude.{ℕ, ◌≡◌, ◌⊎◌, Bool, true, false, List, length, Option, Some, None, Result, Ok}
 use Rattle.std.specs.Prelude.{◌≤◌, IfErr, IfSome}
+use Rattle.std.specs.List.{Contains}
 use Rattle.std.specs.Option.{unwrap_or}
 use Rattle.std.specs.Result.{result_err}
 use Rattle.regex_extract.specs.Needles.{StartsWithNeedle}
@@ -20,7 +21,7 @@ use Rattle.regex_automata.specs.declared.hybrid.regex.caches.Cache.{Cache}
 use Rattle.meaning.specs.Patterns.{span_input}
 use Rattle.prefilters.specs.Needles.{AllHaveNeedleNear, AllStartWith, HasNeedleNear, NearNeedles}
 use Rattle.prefilters.specs.Skipping.{MaySkipAll, MaySkipTo}
-use Rattle.patterns.specs.Attempts.{IsAnchoredRun}
+use Rattle.patterns.specs.Attempts.{AreLaterRuns, IsAnchoredRun}
 use Rattle.patterns.specs.Patterns.{AreMeanings, config_of}
 use Rattle.patterns.specs.declared.compile.Options.{Options}
 use Rattle.patterns.specs.declared.pattern.Pattern.{Pattern}
@@ -33,6 +34,10 @@ AreNeedlesOf options texts needles =
 -- the others are needles of every pattern that has these needles
 abbrev pub MayReplace : (needles others : List (List ℕ)) → Type 0
 MayReplace needles others = (re : Re) → StartsWithNeedle re needles → StartsWithNeedle re others
+
+-- each needle that is in the first list is in the second
+abbrev pub KeepsNeedles : (old new : List (List ℕ)) → Type 0
+KeepsNeedles old new = (needle : List ℕ) → Contains old needle → Contains new needle
 
 -- of every pattern whose matches begin with one of these needles, they are near the start of every match
 abbrev pub AreNearFor : (needles : List (List ℕ)) → NearNeedles → Type 0
@@ -84,12 +89,14 @@ HasBeginnings pattern = HasPrefilter pattern ⊎ (pattern.first_bytes ≡ None �
 abbrev pub IsCandidate : Pattern → Input → (at : ℕ) → Type 0
 IsCandidate pattern input at = HasBeginnings pattern × MaySkipTo (forward_engine pattern.regex) input at
 
--- an attempt to find the match of an input at once: no search, or an anchored one if the pattern has beginnings and
--- makes attempts at them
+-- an attempt to find the match of an input at once: no search, or an anchored one and perhaps further ones if the
+-- pattern has beginnings and makes attempts at them
 abbrev pub IsAttempt : Pattern → Input → (old new : Cache) → Type 0
 IsAttempt pattern input old new =
     (new ≡ old)
-    ⊎ ((pattern.attempts ≡ true) × HasBeginnings pattern × IsAnchoredRun pattern.regex input old new)
+    ⊎ ((pattern.attempts ≡ true) × HasBeginnings pattern
+    × (between : Cache) × IsAnchoredRun pattern.regex input old between
+    × AreLaterRuns pattern.regex input between new)
 
 -- an attempt to find the match of an input at once, and then a search of the input, unless the attempt has found it
 pub data IsSearchedAfter (pattern : Pattern) (input : Input) (old new : Cache) (Finds : Type 0)

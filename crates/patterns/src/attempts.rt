@@ -1,11 +1,11 @@
 //! Attempts to find the next match of an iteration at once: by one anchored search from the first offset where a match
 //! can begin.
-ghost use Rattle.std.specs.Prelude.{◌≡◌, ◌<◌, ◌≤◌, IfSome, Some, false, true};
+ghost use Rattle.std.specs.Prelude.{◌≡◌, ◌<◌, ◌≤◌, Some, false, true};
 ghost use Rattle.automata_base.specs.Answers.Spans.{IsSpan};
 ghost use Rattle.regex_automata.specs.Promises.{AreCachesOf, IsSoundPair, LeftmostFirst, forward_engine};
 ghost use Rattle.regex_automata.specs.Spans.Outcomes.{MatchLiesIn};
 ghost use Rattle.prefilters.specs.Skipping.{MaySkipTo, anchored_from};
-ghost use Rattle.patterns.specs.Attempts.{IsAnchoredRun, IsFullSearch};
+ghost use Rattle.patterns.specs.Attempts.{BeginsLater, IfFound, IfNothing, IsFullSearch, IsRunFrom, LiesInSpan};
 
 use regex_automata::hybrid::regex::{Cache, Regex};
 use regex_automata::util::search::{Anchored, Input, Match, Span};
@@ -16,6 +16,12 @@ const FEW: u32 = 16;
 
 /// The balance of misses from which on no attempts are made.
 const MANY: u32 = 64;
+
+/// Attempts for one match go on while they are rarer than one in so many bytes, apart from the first two.
+const SPACE: usize = 64;
+
+/// The number of bytes by which the second attempt may be too near.
+const CREDIT: usize = 64;
 
 /// How often attempts to find the next match of an iteration at once have failed, as a balance. It decides whether
 /// another attempt is made, and never what is found.
@@ -44,7 +50,7 @@ impl Misses {
     }
 
     /// Counts an attempt that has found the match.
-    fn count_match(&mut self) {
+    pub(crate) fn count_match(&mut self) {
         self.balance = self.balance.saturating_sub(1);
     }
 
@@ -54,7 +60,7 @@ impl Misses {
     }
 
     /// Counts an attempt whose search was in vain, which costs more.
-    fn count_failure(&mut self) {
+    pub(crate) fn count_failure(&mut self) {
         self.balance = self.balance.saturating_add(2);
     }
 }
@@ -77,27 +83,38 @@ fn anchored_from<'h>(input: &Input<'h>, start: usize) -> Input<'h>
         .anchored(Anchored::Yes)
 }
 
-/// Searches anchored from an offset on before which no match begins. If this returns none, the input is yet to be
-/// searched.
+/// What an attempt says.
+#[derive(Clone, Copy)]
+pub(crate) enum Attempt {
+    /// This is the match.
+    Found(Match),
+    /// No match begins up to this offset.
+    Nothing(usize),
+    /// Nothing is known: the match there is empty, the search failed, or none was made.
+    Unknown,
+}
+
+/// Whether another attempt may be made after so many bytes and attempts.
+pub(crate) fn pays(bytes: usize, attempts: usize) -> bool {
+    bytes.saturating_add(CREDIT) >= attempts.saturating_mul(SPACE)
+}
+
+/// Searches anchored from an offset on before which no match begins.
 ///
 /// An error of the anchored search is dropped: the search that follows does without it, or fails, too.
 #[inline(always)]
-pub(crate) fn find_at(
-    regex: &Regex,
-    cache: &mut Cache,
-    input: &Input<'_>,
-    start: usize,
-    misses: &mut Misses,
-) -> Option<Match>
+pub(crate) fn find_at(regex: &Regex, cache: &mut Cache, input: &Input<'_>, start: usize) -> Attempt
     requires caches { AreCachesOf cache.old regex.now }
-    requires skips { MaySkipTo (forward_engine regex.now) input.now start }
+    requires within { LiesInSpan input.now start }
+    requires skips { IsSoundPair regex.now → MaySkipTo (forward_engine regex.now) input.now start }
     requires kind { (forward_engine regex.now).kind ≡ LeftmostFirst }
     requires full { IsFullSearch input.now }
     ensures of { AreCachesOf cache.new regex.now }
-    ensures span { IfSome result (λ m. IsSoundPair regex.now
+    ensures span { IfFound result (λ m. IsSoundPair regex.now
         → IsSpan (forward_engine regex.now) input.now (Some m)) }
-    ensures within { IfSome result (λ m. MatchLiesIn regex.now input.now m × (m.start < m.end)) }
-    ensures run { IsAnchoredRun regex.now input.now cache.old cache.new }
+    ensures within { IfFound result (λ m. MatchLiesIn regex.now input.now m × (m.start < m.end)) }
+    ensures none { IfNothing result (BeginsLater regex.now input.now) }
+    ensures run { IsRunFrom regex.now input.now start cache.old cache.new }
 {
     let anchored = anchored_from(input, start);
     match regex
@@ -105,13 +122,10 @@ pub(crate) fn find_at(
         .try_search_fwd(cache.forward_mut(), &anchored)
     {
         Ok(Some(half)) if half.offset() > start => {
-            misses.count_match();
             let end = half.offset();
-            Some(Match::new(half.pattern(), Span { start, end }))
+            Attempt::Found(Match::new(half.pattern(), Span { start, end }))
         }
-        _ => {
-            misses.count_failure();
-            None
-        }
+        Ok(None) => Attempt::Nothing(start),
+        _ => Attempt::Unknown,
     }
 }

@@ -21,7 +21,7 @@ ghost use Rattle.patterns.specs.Patterns.{IsBuiltOf, IsFor, IsJoinedNfa, IsNfaOf
 ghost use Rattle.patterns.specs.Patterns.{settings_of, settings_with};
 ghost use Rattle.patterns.specs.declared.compile.Options as options;
 
-use crate::attempts::{Misses, find_at, is_full_search};
+use crate::attempts::{Attempt, Misses, find_at, is_full_search, pays};
 use crate::compile::{Options, nfa_of};
 use crate::error::{Fault, PatternError};
 use crate::needles::prefilter_of;
@@ -137,7 +137,9 @@ fn rest<'h>(hay: &'h [u8], start: usize) -> Input<'h>
 
 impl Pattern {
     ghost use Rattle.patterns.specs.Iteration.{IsNextMeant, rest_of};
-    ghost use Rattle.patterns.specs.Attempts.{IsFullSearch};
+    ghost use Rattle.automata_hybrid.specs.Searches.Passes.{Skips};
+    ghost use Rattle.prefilters.specs.Skipping.{IsNextBegin};
+    ghost use Rattle.patterns.specs.Attempts.{AreLaterRuns, BeginsLater, IfFound, IfNothing, IsFullSearch};
     ghost use Rattle.patterns.specs.Searches.{IsAttempt, IsCandidate, IsEndSearch, IsNarrowed, IsNextSearch};
     ghost use Rattle.patterns.specs.Searches.{IsSpanSearch, IsTruthSearch};
 
@@ -402,9 +404,96 @@ impl Pattern {
         }
     }
 
-    /// Attempts to find the match of the input at once: by one anchored search from the first offset where a match can
-    /// begin, if that is near the start of the span. The match is not empty. If this returns none, nothing is known, and
-    /// the input is yet to be searched. If the pattern has needles, the input is to be one that `narrow` returned.
+    /// Whether attempts go from needle to needle: matches begin at the needles, and no offset is skipped.
+    fn tries_needles(&self) -> bool
+        ensures { result ≡ true → Skips self.now.regex.forward → ⊥ }
+    {
+        self.first_bytes.is_none() && self.begins_at_needles() && !self.regex.forward().skips()
+    }
+
+    /// Returns the first needle after an offset, where the next match may begin; none if no needle is left, or the
+    /// pattern has none.
+    fn next_needle(&self, input: &Input<'_>, at: usize) -> Option<usize>
+        ensures { IfSome result (IsNextBegin (forward_engine self.now.regex) input.now at) }
+    {
+        match &self.prefilter {
+            Some(prefilter) if at < input.end() => {
+                prefilter.skip(input.haystack(), at + 1, input.end())
+            }
+            _ => None,
+        }
+    }
+
+    /// Makes another attempt at the next needle after an offset up to which no match begins, unless it is too near, after
+    /// so many attempts since `first`.
+    fn attempt_after(
+        &self,
+        cache: &mut Cache,
+        input: &Input<'_>,
+        at: usize,
+        first: usize,
+        attempts: usize,
+    ) -> Attempt
+        requires caches { AreCachesOf cache.old self.now.regex }
+        requires past { BeginsLater self.now.regex input.now at }
+        requires plain { Skips self.now.regex.forward → ⊥ }
+        requires kind { (forward_engine self.now.regex).kind ≡ LeftmostFirst }
+        requires full { IsFullSearch input.now }
+        ensures of { AreCachesOf cache.new self.now.regex }
+        ensures span { IfFound result (λ m. IsSoundPair self.now.regex
+            → IsSpan (forward_engine self.now.regex) input.now (Some m)) }
+        ensures within { IfFound result (λ m. MatchLiesIn self.now.regex input.now m × (m.start < m.end)) }
+        ensures none { IfNothing result (BeginsLater self.now.regex input.now) }
+        ensures run { AreLaterRuns self.now.regex input.now cache.old cache.new }
+    {
+        match self.next_needle(input, at) {
+            Some(next) if pays(next.saturating_sub(first), attempts) => {
+                find_at(&self.regex, cache, input, next)
+            }
+            _ => Attempt::Unknown,
+        }
+    }
+
+    /// Makes further attempts, from needle to needle, after one at `first`, up to which no match begins.
+    fn find_later(
+        &self,
+        cache: &mut Cache,
+        input: &Input<'_>,
+        first: usize,
+        misses: &mut Misses,
+    ) -> Option<Match>
+        requires caches { AreCachesOf cache.old self.now.regex }
+        requires past { BeginsLater self.now.regex input.now first }
+        requires plain { Skips self.now.regex.forward → ⊥ }
+        requires kind { (forward_engine self.now.regex).kind ≡ LeftmostFirst }
+        requires full { IsFullSearch input.now }
+        ensures of { AreCachesOf cache.new self.now.regex }
+        ensures span { IfSome result (λ m. IsSoundPair self.now.regex
+            → IsSpan (forward_engine self.now.regex) input.now (Some m)) }
+        ensures within { IfSome result (λ m. MatchLiesIn self.now.regex input.now m × (m.start < m.end)) }
+        ensures run { AreLaterRuns self.now.regex input.now cache.old cache.new }
+    {
+        let mut at = first;
+        for attempts in 1..usize::MAX {
+            match self.attempt_after(cache, input, at, first, attempts) {
+                Attempt::Found(found) => {
+                    misses.count_match();
+                    return Some(found);
+                }
+                Attempt::Nothing(next) => at = next,
+                Attempt::Unknown => {
+                    misses.count_failure();
+                    return None;
+                }
+            }
+        }
+        None
+    }
+
+    /// Attempts to find the match of the input at once: by an anchored search from the first offset where a match can
+    /// begin, if that is near the start of the span. If no match begins there, further searches from the next needles
+    /// follow, while these are far apart. The match is not empty. If this returns none, nothing is known, and the input
+    /// is yet to be searched. If the pattern has needles, the input is to be one that `narrow` returned.
     /// Patterns make no attempt unless `try_first_bytes` lets them.
     ///
     /// The attempts of an iteration share the count of misses, which also decides whether one is made.
@@ -434,7 +523,19 @@ impl Pattern {
             misses.count_gap();
             return None;
         };
-        find_at(&self.regex, cache, input, start, misses)
+        match find_at(&self.regex, cache, input, start) {
+            Attempt::Found(found) => {
+                misses.count_match();
+                Some(found)
+            }
+            Attempt::Nothing(at) if self.tries_needles() => self.find_later(
+                cache, input, at, misses,
+            ),
+            _ => {
+                misses.count_failure();
+                None
+            }
+        }
     }
 
     /// Returns the match after one that ended at `last`, which is not an empty match there; the first match if `last`

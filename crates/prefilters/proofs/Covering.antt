@@ -1,35 +1,51 @@
 -- Where no pair fits, no needle occurs.
 use Rattle.std.proofs.Common.{ℕ, zero, suc, ◌≡◌, ◌+◌, ◌-◌, ◌<◌, ◌≤◌, List, length, get_or, ◌∙◌, sym, ap, subst, arith}
-use Rattle.std.proofs.Common.{⊎_elim, refl, [], map, eqb, true, false, true≢false, below_more, take, drop, ext_get_or}
-use Rattle.std.proofs.Common.{length-take-le, length-drop, get_or-take, get_or-drop, ◌==◌, ◌^◌}
+use Rattle.std.proofs.Common.{⊎_elim, [], map, false, true≢false, below_more}
+use Rattle.std.proofs.Common.{◌==◌, ◌^◌}
 use Rattle.std.specs.Prelude.{Vec}
 use Rattle.std.specs.declared.alloc.Global.{Global}
-use Rattle.std.specs.List.{starts_with}
-use Rattle.std.proofs.lemmas.Bool.Decides.{Decides-eqb}
-use Rattle.std.proofs.lemmas.Slice.Eq.{slice_eq-Decides}
 use Rattle.std.specs.Int.{bit_at}
 use Rattle.std.specs.Prelude.{bit_and, bit_or, slice_index}
 use Rattle.std.specs.List.{Contains}
 use Rattle.std.proofs.lemmas.Bool.{cases_lt}
 use Rattle.std.proofs.lemmas.Nat.Bits.{bit_at-zero, bit_at_and, bit_at_or}
-use Rattle.std.proofs.lemmas.List.{get_or-map, get_or_default}
+use Rattle.std.proofs.lemmas.List.{get_or-map, get_or_default, length-map}
 use lib.Count.{count_trailing_zeros}
 use Rattle.regex_literal.specs.Find.{AnyOccursAt, OccursAt, needle_at}
 use Rattle.prefilters.specs.Needles.{NoneOccurs}
-use Rattle.prefilters.specs.Pairs.{AnyFitsAt, CoversNeedle, CoversNeedles, FitsAt, FitsNeedle, HasAllOf}
+use Rattle.prefilters.specs.Pairs.{AnyFitsAt, CoversNeedle, CoversNeedles, FitsAt, FitsNeedle, HasAllOf, HasFoldOf}
+use Rattle.prefilters.specs.Pairs.{HasFolds, IsFoldedNeedle, NoFoldOccurs, OccursFolded}
 use Rattle.prefilters.specs.declared.pairs.BytePair.{BytePair}
 use Rattle.prefilters.proofs.Lanes.{trailing_clear, trailing_few}
 
 -- both bytes of a pair are in the needle
 pub fits_needle :
     (fold : ℕ) (pair : BytePair) (needle : List ℕ) → pair.first_at < length needle → pair.second_at < length needle
-    → bit_or (slice_index needle pair.first_at) fold ≡ pair.first
-    → bit_or (slice_index needle pair.second_at) fold ≡ pair.second
+    → slice_index needle pair.first_at ≡ pair.first → slice_index needle pair.second_at ≡ pair.second
     → FitsNeedle fold pair needle
 fits_needle fold pair needle f s e e' = λ hay k o. record {
-  first = ap (λ b. bit_or b fold) (o.reads pair.first_at f) ∙ e;
-  second = ap (λ b. bit_or b fold) (o.reads pair.second_at s) ∙ e';
+  first = o.reads pair.first_at f ∙ e;
+  second = o.reads pair.second_at s ∙ e';
 }
+
+-- where a needle occurs, it occurs folded
+occurs_folded :
+    (fold : ℕ) (hay needle folded : List ℕ) (k : ℕ) → IsFoldedNeedle fold needle folded → OccursAt hay needle k
+    → OccursFolded fold hay folded k
+occurs_folded fold hay needle folded k is o = record {
+  fits = let f = o.fits in let l = is.long in omega (arith, f, l);
+  reads = λ j lt.
+      let inside : j < length needle = (let l = is.long in omega (arith, lt, l)) in
+      ap (λ b. bit_or b fold) (o.reads j inside) ∙ sym (is.reads j inside);
+}
+
+-- if no folded needle occurs, no needle does
+pub none_folded :
+    (fold : ℕ) (hay : List ℕ) (needles folded : List (List ℕ)) (k : ℕ) → HasFolds fold needles folded
+    → NoFoldOccurs fold hay folded k → AnyOccursAt hay needles k → ⊥
+none_folded fold hay needles folded k has none found =
+    let f = has found.0 found.1 in
+    none f.0 f.1 (occurs_folded fold hay (needle_at needles found.0) (needle_at folded f.0) k f.2 found.2)
 
 -- a pair of the list fits wherever the needle occurs
 pub covers_new :
@@ -54,8 +70,8 @@ none_join hay needles s at p first second = λ k low high. ⊎_elim
 
 -- what a mask of 64 offsets says
 module _
-    (fold : ℕ) (pairs : List BytePair) (needles : List (List ℕ)) (hay : List ℕ) (at mask : ℕ)
-    (covers : CoversNeedles fold pairs needles)
+    (fold : ℕ) (pairs : List BytePair) (needles folded : List (List ℕ)) (hay : List ℕ) (at mask : ℕ)
+    (has : HasFolds fold needles folded) (covers : CoversNeedles fold pairs folded)
     (set : (k : ℕ) → k < 64 → AnyFitsAt fold pairs hay (at + k) → bit_at mask k ≡ 1)
   where
     pub none_clear :
@@ -63,8 +79,10 @@ module _
     none_clear n few clear = λ k low high found.
         let here : at + (k - at) ≡ k = omega (arith, low) in
         let lane : k - at < n = omega (arith, low, high) in
+        let f = has found.0 found.1 in
+        let there = occurs_folded fold hay (needle_at needles found.0) (needle_at folded f.0) k f.2 found.2 in
         let one : bit_at mask (k - at) ≡ 1 = set (k - at) (omega (arith, lane, few))
-        (subst (λ j. AnyFitsAt fold pairs hay j) (sym here) (covers found.0 found.1 hay k found.2)) in
+        (subst (λ j. AnyFitsAt fold pairs hay j) (sym here) (covers f.0 f.1 hay k there)) in
         let none : bit_at mask (k - at) ≡ 0 = clear (k - at) lane in
         absurd (omega (arith, one, none))
 
@@ -138,31 +156,15 @@ covers_more fold old new vs i v pair l e all has fits before =
     (subst (λ needle. CoversNeedle fold new needle) (sym (needle_is vs i v l e))
     (covers_new fold pair new v.items fits has))
 
--- the part of the haystack where the needle occurs is the needle
-part :
-    (hay needle : List ℕ) (at : ℕ) → OccursAt hay needle at
-    → take (length needle) (take (length hay - at) (drop at hay)) ≡ needle
-part hay needle at o = ext_get_or 0 _ needle whole (λ j l.
-    let below : j < length needle = omega (arith, l, whole) in
-    get_or-take (length needle) _ j 0 below
-    ∙ (get_or-take (length hay - at) (drop at hay) j 0 (omega (arith, below, fits))
-    ∙ (get_or-drop at hay j 0 ∙ o.reads j below)))
-  where
-    fits : at + length needle ≤ length hay
-    fits = o.fits
-
-    rest : length (take (length hay - at) (drop at hay)) ≡ length hay - at
-    rest = length-take-le (length hay - at) (drop at hay) (omega (arith, length-drop at hay))
-
-    whole : length (take (length needle) (take (length hay - at) (drop at hay))) ≡ length needle
-    whole = length-take-le (length needle) _ (omega (arith, rest, fits))
-
--- the haystack starts with the needle where that occurs
-pub occurs_starts :
-    (hay needle : List ℕ) (at : ℕ) → OccursAt hay needle at
-    → starts_with eqb (take (length hay - at) (drop at hay)) needle ≡ true
-occurs_starts hay needle at o =
-    (slice_eq-Decides Decides-eqb needle _ _ refl).1 (sym (part hay needle at o))
+-- the folded needle is in the list as an item
+pub has_fold_at :
+    (fold : ℕ) (needle : List ℕ) (vs : List (Vec ℕ Global)) (i : ℕ) (v : Vec ℕ Global) → i < length vs
+    → v ≡ get_or vs i v → IsFoldedNeedle fold needle v.items → HasFoldOf fold needle (map (λ w. w.items) vs)
+has_fold_at fold needle vs i v l e is = (
+  i,
+  omega (arith, l, length-map vs (λ (w : Vec ℕ Global). w.items)),
+  subst (λ b. IsFoldedNeedle fold needle b) (sym (needle_is vs i v l e)) is,
+)
 
 -- a length that is not 0
 pub filled : (n : ℕ) → (n == 0) ≡ false → 1 ≤ n

@@ -39,6 +39,22 @@ pub record MaySkipTo (d : Engine) (input : Input) (p : ℕ) : Type 0 where
   -- no match begins before it
   pub none : NoneBegins d input.haystack input.end input.start p
 
+-- the search is unanchored, and no match begins before offset `p` of its span, nor there
+pub record NoneUpTo (d : Engine) (input : Input) (p : ℕ) : Type 0 where
+  -- none begins before it
+  pub skips : MaySkipTo d input p
+  -- nor there
+  pub none : NoneBeginsAt d input.haystack input.end p
+
+-- no match begins after offset `p` and before offset `q` of the span, which is after `p`
+pub record IsNextBegin (d : Engine) (input : Input) (p q : ℕ) : Type 0 where
+  -- it is after it
+  pub after : p < q
+  -- and in the span
+  pub upto : q ≤ input.end
+  -- no match begins between them
+  pub none : NoneBegins d input.haystack input.end (suc p) q
+
 -- the search is unanchored, and no match begins in its span, not even an empty one at its end
 pub record MaySkipAll (d : Engine) (input : Input) : Type 0 where
   -- unanchored searches skip bytes lazily

@@ -9,7 +9,8 @@ ghost use Rattle.std.specs.List.{Contains};
 ghost use Rattle.regex_extract.specs.Needles.{needles_of};
 ghost use Rattle.regex_literal.specs.Find.{AllAtLeast, AnyOccursAt};
 ghost use Rattle.prefilters.specs.Needles.{StopsBeforeNeedle, NoneOccurs};
-ghost use Rattle.prefilters.specs.Pairs.{AnyFitsAt, CoversNeedles, FitsAt, FitsNeedle, HasAllOf, ReachesAtMost};
+ghost use Rattle.prefilters.specs.Pairs.{AnyFitsAt, CoversNeedles, FitsAt, FitsNeedle, HasAllOf, HasFoldOf, HasFolds};
+ghost use Rattle.prefilters.specs.Pairs.{IsFoldedNeedle, KeepsFolds, NoFoldOccurs, OccursFolded, ReachesAtMost};
 
 use std::alloc::{AllocError, Global};
 use std::marker::Model;
@@ -27,7 +28,7 @@ const SPACE: usize = 64;
 /// The number of bytes at the beginning of a needle of which two are chosen.
 const NEAR: usize = 256;
 
-/// If there are more pairs than this, bytes are compared with the bit `CASE` set.
+/// If there are more needles than this, bytes are compared with the bit `CASE` set, if fewer are then different.
 const MANY: usize = 4;
 
 /// With more pairs than this, a search takes longer than a lazy DFA does.
@@ -39,9 +40,21 @@ const MOST_NEEDLES: usize = 64;
 /// The bit in which the two cases of an ASCII letter differ.
 const CASE: u8 = 0x20;
 
-/// Bytes that are frequent in texts, the most frequent first. Others are rare.
-const FREQUENT: &[u8] =
-    b" etaoinsrhldcumfpgwybv,.\n0123456789-_/:\"'kTSAICxMBPEqjRDNLHFWOG=zJUVYK;()X<>QZ";
+/// How rare each ASCII character is in texts, from 1 for the most frequent to 81.
+const RARITIES: [u8; 128] = [
+    79, 79, 79, 79, 79, 79, 79, 79, 79, 79, 25, 79, 79, 79, 79, 79, 79, 79, 79, 79, 79, 79, 79, 79,
+    79, 79, 79, 79, 79, 79, 79, 79, 1, 79, 40, 79, 79, 79, 79, 41, 72, 73, 79, 79, 23, 36, 24, 38,
+    26, 27, 28, 29, 30, 31, 32, 33, 34, 35, 39, 71, 75, 64, 76, 79, 79, 45, 50, 47, 56, 52, 60, 63,
+    59, 46, 66, 70, 58, 49, 57, 62, 51, 77, 55, 44, 43, 67, 68, 61, 74, 69, 78, 79, 79, 79, 79, 37,
+    79, 4, 21, 13, 12, 2, 16, 18, 10, 6, 54, 42, 11, 15, 7, 5, 17, 53, 9, 8, 3, 14, 22, 19, 48, 20,
+    65, 79, 79, 79, 79, 79,
+];
+
+/// The same for the first byte of a character beyond ASCII: in a text of its script it is frequent.
+const LEADING: u8 = 8;
+
+/// The same for a further byte of such a character.
+const FURTHER: u8 = 60;
 
 /// Two bytes of a needle, and their offsets in it.
 #[derive(Clone, Copy, PartialEq, Eq)]
@@ -53,18 +66,19 @@ struct BytePair {
 }
 
 /// Returns how rare a byte is: at least 1.
-fn rarity(byte: u8) -> usize {
-    for (rank, frequent) in FREQUENT.iter().enumerate() {
-        if *frequent == byte {
-            return rank + 1;
-        }
+fn rarity(byte: u8) -> u8 {
+    if byte < 0x80 {
+        RARITIES[usize::from(byte)]
+    } else if byte < 0xC0 {
+        FURTHER
+    } else {
+        LEADING
     }
-    FREQUENT.len() + 1
 }
 
 /// Returns the offset of the rarest byte near the beginning of a needle, other than the one at `apart`; 0 if there is
 /// no other.
-fn rarest(needle: &[u8], fold: u8, apart: usize) -> usize
+fn rarest(needle: &[u8], apart: usize) -> usize
     requires { 0 < length needle.now }
     ensures inside { result < length needle.now }
     ensures near { result < 256 }
@@ -72,7 +86,7 @@ fn rarest(needle: &[u8], fold: u8, apart: usize) -> usize
     let mut best = 0;
     let mut most = 0;
     for at in 0..needle.len().min(NEAR) {
-        let rank = rarity(needle[at] | fold);
+        let rank = rarity(needle[at]);
         if at != apart && rank > most {
             best = at;
             most = rank;
@@ -82,17 +96,17 @@ fn rarest(needle: &[u8], fold: u8, apart: usize) -> usize
 }
 
 impl BytePair {
-    /// Returns two bytes of a needle, with the bits of `fold` set.
-    fn new(needle: &[u8], fold: u8) -> BytePair
+    /// Returns two bytes of a folded needle.
+    fn new(needle: &[u8]) -> BytePair
         requires { 0 < length needle.now }
-        ensures { FitsNeedle fold result needle.now }
+        ensures { (fold : ℕ) → FitsNeedle fold result needle.now }
     {
-        let first_at = rarest(needle, fold, needle.len());
-        let second_at = rarest(needle, fold, first_at);
+        let first_at = rarest(needle, needle.len());
+        let second_at = rarest(needle, first_at);
         BytePair {
-            first: needle[first_at] | fold,
+            first: needle[first_at],
             first_at: first_at as u8,
-            second: needle[second_at] | fold,
+            second: needle[second_at],
             second_at: second_at as u8,
         }
     }
@@ -172,16 +186,90 @@ fn add(pairs: &mut Vec<BytePair>, pair: BytePair) -> Result<(), AllocError>
     Ok(())
 }
 
-/// Returns the pairs of needles, each once.
-fn pairs_of(alloc: Global, needles: &[Vec<u8>], fold: u8) -> Result<Vec<BytePair>, AllocError>
+/// Returns the pairs of folded needles, each once.
+fn pairs_of(alloc: Global, needles: &[Vec<u8>]) -> Result<Vec<BytePair>, AllocError>
     requires { AllAtLeast (map (λ v. v.items) needles.now) 1 }
-    ensures { IfOk result (λ pairs. CoversNeedles fold pairs.items (map (λ v. v.items) needles.now)) }
+    ensures { (fold : ℕ) → IfOk result (λ pairs. CoversNeedles fold pairs.items (map (λ v. v.items) needles.now)) }
 {
     let mut pairs = Vec::new(alloc);
     for needle in needles {
-        add(&mut pairs, BytePair::new(needle, fold))?;
+        add(&mut pairs, BytePair::new(needle))?;
     }
     Ok(pairs)
+}
+
+/// Whether `folded` is the needle with the bits of `fold` set in its bytes.
+fn is_fold(needle: &[u8], fold: u8, folded: &[u8]) -> bool
+    ensures { IsTrue result → IsFoldedNeedle fold needle.now folded.now }
+{
+    if needle.len() != folded.len() {
+        return false;
+    }
+    for at in 0..needle.len() {
+        if needle[at] | fold != folded[at] {
+            return false;
+        }
+    }
+    true
+}
+
+/// Returns the needle with the bits of `fold` set in its bytes.
+fn fold_of(alloc: Global, needle: &[u8], fold: u8) -> Result<Vec<u8>, AllocError>
+    ensures { IfOk result (λ v. IsFoldedNeedle fold needle.now v.items) }
+{
+    needle.iter().map(|byte| *byte | fold).collect(alloc)
+}
+
+/// Whether the needle is there, with the bits of `fold` set in its bytes.
+fn has_fold(folded: &[Vec<u8>], needle: &[u8], fold: u8) -> bool
+    ensures { IsTrue result → HasFoldOf fold needle.now (map (λ v. v.items) folded.now) }
+{
+    for own in folded {
+        if is_fold(needle, fold, own) {
+            return true;
+        }
+    }
+    false
+}
+
+/// Adds the needle with the bits of `fold` set in its bytes, unless that is there.
+fn add_fold(folded: &mut Vec<Vec<u8>>, needle: &[u8], fold: u8) -> Result<(), AllocError>
+    ensures kept { OnOk result (KeepsFolds fold (needles_of folded.old) (needles_of folded.new)) }
+    ensures added { OnOk result (HasFoldOf fold needle.now (needles_of folded.new)) }
+{
+    if !has_fold(folded, needle, fold) {
+        let own = fold_of(*folded.allocator(), needle, fold)?;
+        folded.push(own)?;
+    }
+    Ok(())
+}
+
+/// Returns the needles with the bits of `fold` set in their bytes, each once.
+fn folded_of(alloc: Global, needles: &[Vec<u8>], fold: u8) -> Result<Vec<Vec<u8>>, AllocError>
+    ensures { IfOk result (λ v. HasFolds fold (map (λ n. n.items) needles.now) (needles_of v)) }
+{
+    let mut folded = Vec::new(alloc);
+    for needle in needles {
+        add_fold(&mut folded, needle, fold)?;
+    }
+    Ok(folded)
+}
+
+/// Whether a folded needle occurs at an offset, once the bits of `fold` are set in the bytes of the haystack.
+#[inline(always)]
+fn occurs_at(hay: &[u8], at: usize, fold: u8, needle: &[u8]) -> bool
+    requires { at ≤ length hay.now }
+    ensures { IsFalse result → OccursFolded fold hay.now needle.now at → ⊥ }
+{
+    if needle.len() > hay.len() - at {
+        return false;
+    }
+    for place in 0..needle.len() {
+        if hay[at + place] | fold != needle[place] {
+            return false;
+        }
+    }
+    true
 }
 
 /// Returns the greatest offset of a byte of the pairs.
@@ -207,13 +295,23 @@ fn are_filled(needles: &[Vec<u8>]) -> bool
     true
 }
 
-/// Returns the bits to set in bytes before they are compared: none, or `CASE` if there are many pairs, but fewer with
-/// it.
-fn fold_for(alloc: Global, needles: &[Vec<u8>]) -> Result<u8, AllocError>
-    requires { AllAtLeast (map (λ v. v.items) needles.now) 1 }
+/// Whether one of the folded needles occurs at an offset.
+#[inline(always)]
+fn any_occurs(hay: &[u8], at: usize, fold: u8, folded: &[Vec<u8>]) -> bool
+    requires { at ≤ length hay.now }
+    ensures { IsFalse result → NoFoldOccurs fold hay.now (map (λ v. v.items) folded.now) at }
 {
-    let count = pairs_of(alloc, needles, 0)?.len();
-    if count > MANY && pairs_of(alloc, needles, CASE)?.len() < count {
+    for needle in folded {
+        if occurs_at(hay, at, fold, needle) {
+            return true;
+        }
+    }
+    false
+}
+
+/// Returns the bits to set in bytes before they are compared: `CASE` if there are many needles, but fewer with it.
+fn fold_for(alloc: Global, needles: &[Vec<u8>]) -> Result<u8, AllocError> {
+    if needles.len() > MANY && folded_of(alloc, needles, CASE)?.len() < needles.len() {
         Ok(CASE)
     } else {
         Ok(0)
@@ -224,6 +322,7 @@ fn fold_for(alloc: Global, needles: &[Vec<u8>]) -> Result<u8, AllocError>
 #[derive(Drop)]
 pub struct Pairs {
     needles: Vec<Vec<u8>>,
+    folded: Vec<Vec<u8>>,
     pairs: Vec<BytePair>,
     reach: u8,
     fold: u8,
@@ -234,7 +333,8 @@ impl Model for Pairs {
 
     ghost view = { λ p. needles_of p.needles };
 
-    ghost invariant = { λ p. CoversNeedles p.fold p.pairs.items (needles_of p.needles)
+    ghost invariant = { λ p. HasFolds p.fold (needles_of p.needles) (needles_of p.folded)
+        × CoversNeedles p.fold p.pairs.items (needles_of p.folded)
         × ReachesAtMost p.pairs.items p.reach };
 }
 
@@ -244,17 +344,22 @@ impl Pairs {
     pub fn new(alloc: Global, needles: Vec<Vec<u8>>) -> Result<Option<Pairs>, AllocError>
         ensures { IfOk result (λ o. IfSome o (λ p. p ≡ needles_of needles)) }
     {
-        if needles.len() > MOST_NEEDLES || !are_filled(&needles) {
+        if needles.len() > MOST_NEEDLES {
             return Ok(None);
         }
         let fold = fold_for(alloc, &needles)?;
-        let pairs = pairs_of(alloc, &needles, fold)?;
+        let folded = folded_of(alloc, &needles, fold)?;
+        if !are_filled(&folded) {
+            return Ok(None);
+        }
+        let pairs = pairs_of(alloc, &folded)?;
         if pairs.len() > MOST_PAIRS {
             return Ok(None);
         }
         let reach = reach_of(&pairs);
         Ok(Some(Pairs {
             needles,
+            folded,
             pairs,
             reach,
             fold,
@@ -287,12 +392,7 @@ impl Pairs {
         requires { at ≤ length hay.now }
         ensures { IsFalse result → AnyOccursAt hay.now self.now at → ⊥ }
     {
-        for needle in &self.needles {
-            if hay[at..].starts_with(needle) {
-                return true;
-            }
-        }
-        false
+        any_occurs(hay, at, self.fold, &self.folded)
     }
 
     /// Returns the first offset of the span `start..end`, its end included, at which a needle occurs; none if there is

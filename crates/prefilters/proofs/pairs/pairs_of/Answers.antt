@@ -15,14 +15,14 @@ new-requires c =
     omega (arith, there)
 
 pub loop-needle-preserved : goal.loop-needle-preserved
-loop-needle-preserved c =
-    covers_more c.args.fold c.loop-needle.pairs.items c.add.new.pairs.items c.args.needles.now
+loop-needle-preserved c = λ fold.
+    covers_more fold c.loop-needle.pairs.items c.add.new.pairs.items c.args.needles.now
     c.loop-needle.needle-index c.needle-item.result c.new.result c.loop-needle-test.true c.needle-item.is
     c.in_ok-add.ensures.kept c.in_ok-add.ensures.added
-    (subst (λ v. FitsNeedle c.args.fold c.new.result v) c.deref.ensures.value c.new.ensures)
-    c.loop-needle.invariant
+    (subst (λ v. FitsNeedle fold c.new.result v) c.deref.ensures.value (c.new.ensures fold))
+    (c.loop-needle.invariant fold)
 
 pub returns : goal.returns
-returns c = λ n l.
+returns c = λ fold n l.
     let end = c.loop-needle-test.false in
-    c.loop-needle.invariant n (omega (arith, l, end, length-map c.args.needles.now (λ w. w.items)))
+    c.loop-needle.invariant fold n (omega (arith, l, end, length-map c.args.needles.now (λ w. w.items)))

@@ -5,5 +5,5 @@ use Rattle.prefilters.proofs.pairs.pairs_of.Given as goal
 
 abbrev pub invariant-loop-needle : goal.invariant-loop-needle
 invariant-loop-needle l =
-    (n : ℕ) → n < l.needle-index
-    → CoversNeedle l.fold l.pairs.items (needle_at (map (λ v. v.items) l.needles) n)
+    (fold n : ℕ) → n < l.needle-index
+    → CoversNeedle fold l.pairs.items (needle_at (map (λ v. v.items) l.needles) n)
