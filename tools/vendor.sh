@@ -18,7 +18,7 @@ cd "$1"
 [ "$(pwd -P)" != "$top" ] || { echo 'tools/vendor.sh: FOLDER is this repository' >&2; exit 2; }
 touch crates.txt
 for crate in automata_base automata_determinize automata_transform automata_config automata_hybrid \
-    regex_automata match_facts meaning prefilters patterns; do
+    regex_automata match_facts meaning prefilters patterns lexer meta; do
     mkdir -p "crates/$crate"
     for part in src specs proofs; do
         rm -rf "crates/$crate/$part"
@@ -33,7 +33,7 @@ for crate in automata_base automata_determinize automata_transform automata_conf
         mkdir -p "crates/$crate/out"
         cp -R "$top/crates/$crate/out/rlib" "crates/$crate/out/"
     else
-        echo "tools/vendor.sh: $crate is not proved here: (cd crates/patterns && rt lib) proves the library" >&2
+        echo "tools/vendor.sh: $crate is not proved here: (cd crates/$crate && rt lib) proves it" >&2
     fi
 done
 [ -e .gitignore ] || echo out/ > .gitignore

@@ -23,6 +23,8 @@ from libraries import KIT, PARTS, TOP, below, crates_used, processors, words_ove
 # The example that a new program is a copy of, what it prints, and the libraries that it uses.
 MODEL, PRINTED = f"{TOP}/crates/examples/src/words.rt", f"{TOP}/crates/examples/stdout"
 USES = ["patterns", "regex_automata", "anyhow"]
+# What is copied is these libraries, and those below them.
+COPIED = [*USES, "lexer", "meta"]
 PAGE = "docs/CALLING.md"
 # The heading of the page, the first lines of its code, and the folder that these name.
 HEAD = re.compile(r"^## A repository of your own\n(?:.*\n)*?\n((?:    .*\n)+)", re.M)
@@ -72,8 +74,8 @@ def try_again(folder, program):
 
 
 def library():
-    """Returns the crates that a new program is built over."""
-    return below("program", {**crates_used(), "program": (USES, False)})
+    """Returns the crates that are copied."""
+    return below("program", {**crates_used(), "program": (COPIED, False)})
 
 
 def contents(folder):
