@@ -13,11 +13,12 @@
 #define BUCKETS 1024
 
 /* An upper bound on what tables hold from malloc: bytes per byte of their size, for one direction and for both, and for
-   groups in addition, and a constant. Every kind of pattern that was measured takes less, often half. */
+   groups in addition, and a constant, of which 10 kB are for 64 needles. Every kind of pattern that was measured takes
+   less, often half. */
 #define HELD_FORWARD 6
 #define HELD_BOTH 13
 #define HELD_GROUPS 3
-#define HELD_BESIDE 14000
+#define HELD_BESIDE 24000
 
 /* Searching a byte adds at most one state in each direction: a row of transitions, up to 1 kB, and the state's NFA
    states. Vectors have room to double. */
