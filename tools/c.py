@@ -4,12 +4,13 @@
     tools/c.py [--archive FILE] ['N passed, M failed']
 
 Every call, with valid and with every kind of invalid arguments (calls.c, texts.c, options.c, groups.c, limits.c,
-facts.c, pieces.c, walks.c); regexes of texts beside the same without needles (needles.c); each allocation made to fail in turn
-(faults.c); the memory that caches take from malloc, compared with what they report (memory.c); four threads over one
-regex (threads.c), under helgrind too if it is installed; the script of the program `lazydfa`, run by a C program
-(script.c), which has to print what `lazydfa` prints; the example grep.c, which has to print what `grep -E` prints, if
-that is installed; and the programs of docs/C.md, which have to print what is said there. Each C program is compiled
-twice, the second time with the address and undefined behaviour sanitizers, if the compiler has them.
+facts.c, pieces.c, walks.c); regexes of texts beside the same without needles (needles.c); Unicode word boundaries
+beside a matcher that backtracks (words.c); each allocation made to fail in turn (faults.c); the memory that caches take
+from malloc, compared with what they report (memory.c); four threads over one regex (threads.c), under helgrind too if
+it is installed; the script of the program `lazydfa`, run by a C program (script.c), which has to print what `lazydfa`
+prints; the example grep.c, which has to print what `grep -E` prints, if that is installed; and the programs of
+docs/C.md, which have to print what is said there. Each C program is compiled twice, the second time with the address
+and undefined behaviour sanitizers, if the compiler has them.
 
 Then that the headers, lazydfa.map and lazydfa.symbols have the same names, and the archive and the shared library
 exactly these symbols; programs over the shared library, the version, what is installed and removed, calls with
@@ -114,8 +115,10 @@ def programs():
 class Tests:
     """The tests over an installed library, and their results."""
 
-    def __init__(self, room):
+    def __init__(self, room, is_proved):
         self.room, self.passed, self.failed = room, 0, 0
+        # Without proof each index is tested, and calls take more of the stack.
+        self.stack = [] if is_proved else ["-DSMALL_STACK=131072"]
         self.include, self.archive = f"{room}/include", f"{room}/lib/liblazydfa.a"
         self.shared = f"{room}/lib/liblazydfa.so"
         self.exports = text("bindings/c/lazydfa.symbols").split()
@@ -155,7 +158,7 @@ class Tests:
 
     def try_all(self, kind, flags):
         self.try_program(f"calls{kind}", f"{C}/tests/calls.c", flags)
-        self.try_program(f"texts{kind}", f"{C}/tests/texts.c", ["-pthread", *flags])
+        self.try_program(f"texts{kind}", f"{C}/tests/texts.c", ["-pthread", *self.stack, *flags])
         self.try_program(f"options{kind}", f"{C}/tests/options.c", flags)
         self.try_program(f"groups{kind}", f"{C}/tests/groups.c", flags)
         self.try_program(f"limits{kind}", f"{C}/tests/limits.c", flags)
@@ -253,7 +256,7 @@ class Tests:
         names."""
         found = ["-pthread", f"-Wl,-rpath,{self.room}/lib"]
         self.try_program("calls, shared", f"{C}/tests/calls.c", found, library=self.shared)
-        self.try_program("texts, shared", f"{C}/tests/texts.c", found, library=self.shared)
+        self.try_program("texts, shared", f"{C}/tests/texts.c", [*self.stack, *found], library=self.shared)
         others = "".join(f"void *rattle_{it}(void) {{ return NULL; }}\n" for it in ("alloc", "realloc", "dealloc"))
         declared = "".join(f"void *rattle_{it}(void);\n" for it in ("alloc", "realloc", "dealloc"))
         name, source, prints = programs()[0]
@@ -319,7 +322,7 @@ def main(words):
     counted = re.fullmatch(r"(\d+) passed, (\d+) failed", given.counted)
     passed, failed = (int(counted[1]), int(counted[2])) if counted else (0, 1)
     with tempfile.TemporaryDirectory(prefix="c-") as room:
-        tests = Tests(room)
+        tests = Tests(room, not given.archive)
         named = [f"ARCHIVE={os.path.abspath(given.archive)}"] if given.archive else archive(room)
         status, out, err = run(["make", "-C", C, *named], seconds=7200)
         if not status:

@@ -43,9 +43,9 @@
  *   6. malloc, realloc and free, which the library calls, belong to one allocator and behave as the C standard says; a
  *      handle is used and closed in the process, and with the allocator, that opened it.
  *   7. Arguments are passed according to the System V ABI of x86-64. The processor has SSSE3 and SSE4.1, as each of the
- *      level x86-64-v2 (lazydfa_is_supported). The stack has room for a call: 16 KiB are enough for any NFA. For a
- *      pattern's text add 1 KiB for each level to which it may nest, since groups are parsed recursively: 48 KiB in all
- *      by default.
+ *      level x86-64-v2 (lazydfa_is_supported). The stack has room for a call: 20 KiB are enough for any NFA. A
+ *      pattern's text takes 32 KiB, and 1 KiB more for each level above 8 to which it may nest, since groups are parsed
+ *      recursively: 56 KiB in all by default.
  *
  * Nothing else is required of the program: every number is allowed in every argument.
  */

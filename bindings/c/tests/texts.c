@@ -107,13 +107,18 @@ static void *nest_in_thread(void *codes) {
     return NULL;
 }
 
-/* The same, on a thread with a stack of 64 KiB. */
+/* The stack of a small thread. Code that is built without proof takes more. */
+#ifndef SMALL_STACK
+#define SMALL_STACK 65536
+#endif
+
+/* The same, on a thread with a small stack. */
 static void small_stack(void) {
     uint32_t codes[6] = { 0 };
     pthread_attr_t attributes;
     pthread_t thread;
     size_t i;
-    CHECK(!pthread_attr_init(&attributes) && !pthread_attr_setstacksize(&attributes, 65536));
+    CHECK(!pthread_attr_init(&attributes) && !pthread_attr_setstacksize(&attributes, SMALL_STACK));
     CHECK(!pthread_create(&thread, &attributes, nest_in_thread, codes) && !pthread_join(thread, NULL));
     for (i = 0; i < 6; i++) CHECK(codes[i] == (i % 2 ? LAZYDFA_SYNTAX : LAZYDFA_OK));
 }

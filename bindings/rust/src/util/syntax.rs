@@ -83,7 +83,7 @@ impl Config {
     }
 
     /// Sets how deep groups, repetitions and classes may nest, from 1 on (0 is taken as 1). By default it is
-    /// 250. The parser is recursive, and takes 16 KiB of the stack and 1 KiB for each level.
+    /// 250. The parser is recursive, and takes 32 KiB of the stack and 1 KiB for each level above 8.
     pub fn nest_limit(mut self, limit: u32) -> Config {
         self.options.nest_limit = limit.max(1);
         self
