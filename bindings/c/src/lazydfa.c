@@ -74,8 +74,12 @@ const char *lazydfa_version(void) {
 }
 
 int lazydfa_is_supported(void) {
+#ifdef LAZYDFA_ANY_PROCESSOR
+    return 1;
+#else
     unsigned a, b, c, d;
     return __get_cpuid(1, &a, &b, &c, &d) && (c & bit_SSSE3) && (c & bit_SSE4_1);
+#endif
 }
 
 /* ---- Options and errors ---- */
