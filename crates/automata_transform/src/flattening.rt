@@ -252,7 +252,7 @@ fn leads_to_link(links: &[StateID], state: &State) -> bool
     }
 }
 
-/// Returns the alternates of a chain whose first union has these two, or none if it is no chain.
+/// Returns the alternates of a chain whose first union has these two, or none if it is not a chain.
 fn alternates_of(
     nfa: &NFA,
     links: &[StateID],
@@ -290,7 +290,7 @@ fn alternates_of(
     Ok(None)
 }
 
-/// Returns the union that takes the place of the first union of a chain, or none if it is no chain.
+/// Returns the union that takes the place of the first union of a chain, or none if it is not a chain.
 fn flat_union(
     nfa: &NFA,
     links: &[StateID],

@@ -35,8 +35,8 @@ abbrev pub lead : (before : ℕ) → List ((Position × List ℕ) × Bool) → �
 lead before [] = 0
 lead before (line ∷ lines) = cond line.1 before (lead before lines - 1)
 
--- whether a line that is not taken is near one that is: it follows one, or so many lines directly before those after it
--- are shown that it is one of them
+-- whether a line that is not taken is near one that is: it is one of the lines that are shown after a line that is
+-- taken, or before one
 abbrev pub is_near : (left near : ℕ) → Bool
 is_near zero zero = false
 is_near zero (suc near) = true

@@ -17,7 +17,7 @@ const FEW: u32 = 16;
 /// The balance of misses from which on no attempts are made.
 const MANY: u32 = 64;
 
-/// Attempts for one match go on while they are rarer than one in so many bytes, apart from the first two.
+/// Attempts for one match continue while they are rarer than one in this number of bytes, apart from the first two.
 const SPACE: usize = 64;
 
 /// The number of bytes by which the second attempt may be too near.
@@ -94,7 +94,7 @@ pub(crate) enum Attempt {
     Unknown,
 }
 
-/// Whether another attempt may be made after so many bytes and attempts.
+/// Whether another attempt may be made after this number of bytes and of attempts.
 pub(crate) fn pays(bytes: usize, attempts: usize) -> bool {
     bytes.saturating_add(CREDIT) >= attempts.saturating_mul(SPACE)
 }

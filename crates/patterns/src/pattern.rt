@@ -425,7 +425,7 @@ impl Pattern {
     }
 
     /// Makes another attempt at the next needle after an offset up to which no match begins, unless it is too near, after
-    /// so many attempts since `first`.
+    /// this number of attempts since `first`.
     fn attempt_after(
         &self,
         cache: &mut Cache,

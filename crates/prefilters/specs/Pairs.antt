@@ -23,7 +23,7 @@ pub record IsFoldedNeedle (fold : ℕ) (needle folded : List ℕ) : Type 0 where
 abbrev pub HasFoldOf : (fold : ℕ) → (needle : List ℕ) → (folded : List (List ℕ)) → Type 0
 HasFoldOf fold needle folded = (m : ℕ) × (m < length folded) × IsFoldedNeedle fold needle (needle_at folded m)
 
--- so is each of the needles
+-- each of the needles is in the second list, with the bits of `fold` set in its bytes
 abbrev pub HasFolds : (fold : ℕ) → (needles folded : List (List ℕ)) → Type 0
 HasFolds fold needles folded = (n : ℕ) → n < length needles → HasFoldOf fold (needle_at needles n) folded
 

@@ -40,7 +40,7 @@ const MOST_NEEDLES: usize = 64;
 /// The bit in which the two cases of an ASCII letter differ.
 const CASE: u8 = 0x20;
 
-/// How rare each ASCII character is in texts, from 1 for the most frequent to 81.
+/// How rare each ASCII character is in texts, from 1 for the most frequent to 79.
 const RARITIES: [u8; 128] = [
     79, 79, 79, 79, 79, 79, 79, 79, 79, 79, 25, 79, 79, 79, 79, 79, 79, 79, 79, 79, 79, 79, 79, 79,
     79, 79, 79, 79, 79, 79, 79, 79, 1, 79, 40, 79, 79, 79, 79, 41, 72, 73, 79, 79, 23, 36, 24, 38,
