@@ -539,6 +539,7 @@ lazydfa_status lazydfa_find_start(lazydfa_cache *cache, const uint8_t *haystack,
 lazydfa_iteration lazydfa_iterate(lazydfa_input input) {
     lazydfa_iteration at = { { 0, 0, 0, 0, 0, 0 }, 0, 0, 0 };
     at.left = input;
+    at.left.reserved = 0; /* the input may be what another iteration has left, of another haystack */
     return at;
 }
 

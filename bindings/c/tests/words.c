@@ -263,10 +263,26 @@ static void several(void) {
     CODE(lazydfa_regex_close(&regex), LAZYDFA_OK);
 }
 
+/* An iteration that begins with what another one has left tests its own haystack. */
+static void begun_again(void) {
+    lazydfa_options options = LAZYDFA_OPTIONS_INIT;
+    lazydfa_cache cache = LAZYDFA_INIT;
+    lazydfa_match match;
+    lazydfa_iteration at = lazydfa_iterate(lazydfa_whole(3));
+    open(&cache, "\\b\\w", &options);
+    CODE(lazydfa_next(&cache, bytes("a b"), 3, &at, &match), LAZYDFA_OK);
+    CHECK(at.left.reserved != 0 && lazydfa_iterate(at.left).left.reserved == 0);
+    at = lazydfa_iterate(at.left);
+    CODE(lazydfa_next(&cache, bytes(" \xC3\xA9"), 3, &at, &match), LAZYDFA_OK);
+    CHECK(match.start == 1 && match.end == 3);
+    CODE(lazydfa_cache_close(&cache), LAZYDFA_OK);
+}
+
 int main(int argc, char **argv) {
     if (argc > 1) seed = strtoul(argv[1], NULL, 10);
     random_pairs(argc > 2 ? atoi(argv[2]) : 3000);
     not_simulated();
     several();
+    begun_again();
     return counted();
 }
