@@ -19,6 +19,7 @@ mod error;
 mod escapes;
 mod explain;
 mod facts;
+mod inner;
 pub mod laws;
 mod matches;
 mod needles;

@@ -9,8 +9,9 @@ ghost use Rattle.patterns.specs.Searches.{AreNearFor, AreNeedlesOf, HaveNeedlesN
 
 use crate::compile::{Options, parse};
 use crate::error::Fault;
+use crate::inner::after_head;
 use match_facts::common_prefix;
-use prefilters::{Needles, Prefilter};
+use prefilters::{Head, Needles, Prefilter};
 use regex_extract::{max_len, prefixes, required};
 use regex_hir::Hir;
 use std::alloc::{AllocError, Global};
@@ -190,10 +191,10 @@ fn fast_prefilter(alloc: Global, needles: Needles) -> Result<Option<Prefilter>, 
 {
     let few = few_of(alloc, needles)?;
     if is_fast(&few) {
-        return Prefilter::new(alloc, few, 0);
+        return Prefilter::new(alloc, few, Head::Within(0));
     }
     match common_needle(alloc, &few) {
-        Ok(Some(only)) => Prefilter::new(alloc, only, 0),
+        Ok(Some(only)) => Prefilter::new(alloc, only, Head::Within(0)),
         Ok(None) => Ok(None),
         Err(error) => Err(error),
     }
@@ -219,9 +220,6 @@ fn may_have_inner(text: &str) -> bool {
     let mut row = 0usize;
     let mut longest = 0;
     for byte in text.as_bytes() {
-        if matches!(*byte, b'*' | b'+') {
-            return false;
-        }
         row = if byte.is_ascii_alphanumeric() || *byte == b' ' {
             row.saturating_add(1)
         } else {
@@ -245,7 +243,7 @@ fn inner_of(alloc: Global, hir: &Hir) -> Result<Option<Prefilter>, AllocError>
 {
     let most = match max_len(hir) {
         Some(most) if most <= SHORT => most,
-        _ => return Ok(None),
+        _ => return after_head(alloc, hir),
     };
     match required(alloc, hir) {
         Ok(Some(needles)) if is_fast_inside(&needles) => Prefilter::for_inner(alloc, needles, most),

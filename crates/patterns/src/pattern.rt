@@ -255,7 +255,7 @@ impl Pattern {
     /// Whether matches begin at the needles, and not only near them.
     fn begins_at_needles(&self) -> bool {
         match &self.prefilter {
-            Some(prefilter) => prefilter.reach() == 0,
+            Some(prefilter) => prefilter.is_at_start(),
             None => false,
         }
     }

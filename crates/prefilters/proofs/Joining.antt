@@ -11,7 +11,10 @@ use Rattle.regex_extract.specs.Needles.{ContainsNeedle, StandsWithin, StartsWith
 use Rattle.regex_literal.specs.Find.{AllAtMost, OccursAt, needle_at}
 use Rattle.meaning.specs.Patterns.{any_of}
 use Rattle.prefilters.specs.Needles.{AllHaveNeedleNear, AllStartWith, HasNeedleNear, NearNeedles, NoneOccurs}
-use Rattle.prefilters.specs.Needles.{ReachesAll}
+use Rattle.prefilters.specs.Needles.{AreNearInShort, HasNeedleAfter, ReachesAll}
+use Rattle.prefilters.specs.Heads.{IsHead, IsHeadOf}
+use Rattle.prefilters.specs.declared.heads.Head.{Head}
+use Rattle.prefilters.specs.declared.heads.Head.TheVariants.{Any, Of, Within}
 
 no_range : (b : ℕ) → in_ranges [] b ≡ true → ⊥
 unfolding in_ranges
@@ -70,21 +73,33 @@ needles_join (re ∷ next ∷ res) near s hay bytes i j (inl m) = s 0 re (omega 
 needles_join (re ∷ next ∷ res) near s hay bytes i j (inr m) =
     needles_join (next ∷ res) near (λ n d l. s (suc n) d (omega (arith, l))) hay bytes i j m
 
+-- the empty part of a match is a head
+nothing_is_head : (head : Head) (hay : List ℕ) (i : ℕ) → IsHead head hay i i
+nothing_is_head (Within most) hay i = omega arith
+nothing_is_head (Of table) hay i = λ k low high. absurd (omega (arith, low, high))
+nothing_is_head Any hay i = tt
+
 pub starts_are_near :
-    (re : Re) (needles : List (List ℕ)) (reach : ℕ) → StartsWithNeedle re needles
-    → HasNeedleNear re (record { needles = needles; reach = reach })
-starts_are_near re needles reach starts hay bytes i j m =
-    let w = starts hay bytes i j m in (w.0, i, w.1, omega arith)
+    (re : Re) (needles : List (List ℕ)) (head : Head) → StartsWithNeedle re needles
+    → HasNeedleNear re (record { needles = needles; head = head })
+starts_are_near re needles head starts hay bytes i j m =
+    let w = starts hay bytes i j m in (w.0, i, w.1, nothing_is_head head hay i)
 
 pub inner_are_near :
-    (re : Re) (near : NearNeedles) (most : ℕ) → ContainsNeedle re near.needles → IsMaxLen re most
-    → ReachesAll near most → HasNeedleNear re near
-inner_are_near re near most contains short reaches hay bytes i j m =
+    (needles : List (List ℕ)) (reach most : ℕ) → ReachesAll needles reach most
+    → AreNearInShort needles most (record { needles = needles; head = Within reach })
+inner_are_near needles reach most reaches re contains short hay bytes i j m =
     let w = contains hay bytes i j m in
     let ends = w.2.high in
     let upto = short hay bytes i j m in
     let all = reaches w.0 w.2.numbered in
     (w.0, w.1, w.2, omega (arith, ends, upto, all))
+
+pub heads_lead :
+    (re before : Re) (needles : List (List ℕ)) (head : Head) → HasNeedleAfter re before needles
+    → IsHeadOf before head → HasNeedleNear re (record { needles = needles; head = head })
+heads_lead re before needles head after is hay bytes i j m =
+    let w = after hay bytes i j m in (w.0, w.1, w.2, is hay bytes i w.1 w.3)
 
 -- a needle in the haystack is one in a beginning that goes as far
 occurs_within :

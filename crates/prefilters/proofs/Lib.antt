@@ -8,3 +8,4 @@ pub mod Joining
 mod Skips
 mod Lanes
 mod Covering
+pub mod Consisting

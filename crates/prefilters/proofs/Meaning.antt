@@ -30,8 +30,7 @@ pub needles_none :
     → NoneIsNear hay near s p → (o j : ℕ) → s ≤ o → o < p → Matches hay re o j → ⊥
 needles_none re near hay s p has bytes nowhere o j l k m =
     let w = has hay (all_bytes hay bytes) o j m in
-    let within = w.3 in
-    nowhere o l k w.1 w.2.low (omega (arith, within)) (w.0, w.2.numbered, w.2.occurs)
+    nowhere o w.1 l k w.2.low w.3 (w.0, w.2.numbered, w.2.occurs)
 
 -- a path over a shorter span is one over a longer one
 pub none_shorter :

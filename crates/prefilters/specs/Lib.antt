@@ -1,4 +1,6 @@
 pub mod Skipping
+pub mod Bytes
+pub mod Heads
 pub mod Needles
 pub mod FirstBytes
 pub mod Pairs

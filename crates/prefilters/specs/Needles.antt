@@ -12,7 +12,10 @@ use Rattle.automata_base.specs.Nfas.Engines.{Engine}
 use Rattle.meaning.specs.Agreeing.{Each, HasSameLooks, ImplementAll}
 use Rattle.meaning.specs.Patterns.{any_of}
 use Rattle.meaning.specs.Translated.{joined_engine}
+use Rattle.prefilters.specs.Heads.{IsHead, IsHeadOf}
 use Rattle.prefilters.specs.Skipping.{NoneBegins, NoneBeginsAt}
+use Rattle.prefilters.specs.declared.heads.Head.{Head}
+use Rattle.prefilters.specs.declared.heads.Head.TheVariants.{Within}
 
 -- no needle occurs from offset `s` to before offset `p` of the haystack
 abbrev pub NoneOccurs : List ℕ → (needles : List (List ℕ)) → (s p : ℕ) → Type 0
@@ -23,27 +26,34 @@ abbrev pub StopsBeforeNeedle : List ℕ → (needles : List (List ℕ)) → (s e
 StopsBeforeNeedle hay needles s e None = NoneOccurs hay needles s (suc e)
 StopsBeforeNeedle hay needles s e (Some p) = (s ≤ p) × (p ≤ e) × NoneOccurs hay needles s p
 
--- needles, and how many bytes after the start of a match one of them begins at most
+-- needles, and what comes before the first of them in a match
 pub record NearNeedles : Type 0 where
   -- the needles
   pub needles : List (List ℕ)
-  -- the number of bytes
-  pub reach : ℕ
+  -- the head of a match
+  pub head : Head
 
--- at no offset from `s` to before offset `p` of the haystack, nor within reach after it, a needle occurs
+-- from no offset from `s` to before offset `p` of the haystack such a head leads to a needle
 abbrev pub NoneIsNear : List ℕ → NearNeedles → (s p : ℕ) → Type 0
-NoneIsNear hay near s p = (o : ℕ) → s ≤ o → o < p → NoneOccurs hay near.needles o (suc (o + near.reach))
+NoneIsNear hay near s p =
+    (o k : ℕ) → s ≤ o → o < p → o ≤ k → IsHead near.head hay o k → AnyOccursAt hay near.needles k → ⊥
 
 -- the first offset from `s` to `e` where a needle may be near, as none is near before it; or None
 abbrev pub SkipsTo : List ℕ → NearNeedles → (s e : ℕ) → Option ℕ → Type 0
 SkipsTo hay near s e None = NoneIsNear hay near s (suc e)
 SkipsTo hay near s e (Some p) = (s ≤ p) × (p ≤ e) × NoneIsNear hay near s p
 
--- every match has a needle that begins within reach of the start of the match
+-- every match has a needle after such a head
 abbrev pub HasNeedleNear : Re → NearNeedles → Type 0
 HasNeedleNear re near =
     (hay : List ℕ) → All (λ b. b < 256) hay → (i j : ℕ) → Matches hay re i j
-    → (n k : ℕ) × StandsWithin hay near.needles n k i j × (k ≤ i + near.reach)
+    → (n k : ℕ) × StandsWithin hay near.needles n k i j × IsHead near.head hay i k
+
+-- every match begins with a match of `before`, after which a needle occurs in it
+abbrev pub HasNeedleAfter : Re → (before : Re) → (needles : List (List ℕ)) → Type 0
+HasNeedleAfter re before needles =
+    (hay : List ℕ) → All (λ b. b < 256) hay → (i j : ℕ) → Matches hay re i j
+    → (n k : ℕ) × StandsWithin hay needles n k i j × Matches hay before i k
 
 -- every match of each of these patterns begins with one of these needles
 abbrev pub AllStartWith : List Re → (needles : List (List ℕ)) → Type 0
@@ -54,9 +64,13 @@ abbrev pub AllHaveNeedleNear : List Re → NearNeedles → Type 0
 AllHaveNeedleNear res near = All (λ re. HasNeedleNear re near) res
 
 -- the reach and each needle have `most` bytes together: in a match of at most that length a needle is near its start
-abbrev pub ReachesAll : NearNeedles → (most : ℕ) → Type 0
-ReachesAll near most =
-    (n : ℕ) → n < length near.needles → most ≤ near.reach + length (needle_at near.needles n)
+abbrev pub ReachesAll : (needles : List (List ℕ)) → (reach most : ℕ) → Type 0
+ReachesAll needles reach most =
+    (n : ℕ) → n < length needles → most ≤ reach + length (needle_at needles n)
+
+-- If every match contains one of these needles and has at most `most` bytes, one is near its start.
+abbrev pub AreNearInShort : (needles : List (List ℕ)) → (most : ℕ) → NearNeedles → Type 0
+AreNearInShort needles most near = (re : Re) → ContainsNeedle re needles → IsMaxLen re most → HasNeedleNear re near
 
 -- where no needle is near, no match begins, wherever the span ends
 abbrev pub BeginsNearNeedle : Engine → NearNeedles → Type 0
@@ -69,18 +83,24 @@ abbrev pub NeedlesJoin : Type 0
 NeedlesJoin =
     (res : List Re) (near : NearNeedles) → AllHaveNeedleNear res near → HasNeedleNear (any_of res) near
 
--- A needle with which a match begins is near its start.
+-- A needle with which a match begins is near its start, whatever the head.
 abbrev pub StartsAreNear : Type 0
 StartsAreNear =
-    (re : Re) (needles : List (List ℕ)) (reach : ℕ) → StartsWithNeedle re needles
-    → HasNeedleNear re (record { needles = needles; reach = reach })
+    (re : Re) (needles : List (List ℕ)) (head : Head) → StartsWithNeedle re needles
+    → HasNeedleNear re (record { needles = needles; head = head })
 
 -- If no match has more than `most` bytes, a needle that each match contains is as near to its start as the length of
 -- the needle allows.
 abbrev pub InnerAreNear : Type 0
 InnerAreNear =
-    (re : Re) (near : NearNeedles) (most : ℕ) → ContainsNeedle re near.needles → IsMaxLen re most
-    → ReachesAll near most → HasNeedleNear re near
+    (needles : List (List ℕ)) (reach most : ℕ) → ReachesAll needles reach most
+    → AreNearInShort needles most (record { needles = needles; head = Within reach })
+
+-- A needle after a match of a pattern is near, if every match of that pattern is such a head.
+abbrev pub HeadsLead : Type 0
+HeadsLead =
+    (re before : Re) (needles : List (List ℕ)) (head : Head) → HasNeedleAfter re before needles
+    → IsHeadOf before head → HasNeedleNear re (record { needles = needles; head = head })
 
 -- More needles may be added.
 abbrev pub NeedlesGrow : Type 0

@@ -8,8 +8,10 @@ ghost use Rattle.automata_base.specs.Nfas.Nodes.{node_of, ranges_of};
 ghost use Rattle.automata_base.specs.Retraced.Reach.{node_in};
 ghost use Rattle.automata_base.specs.declared.util.search.MatchKind.{MatchKind};
 ghost use Rattle.prefilters.specs.FirstBytes.{BeginsAtFirstByte, FindsFirstByte, ReadsFirstBytes};
-ghost use Rattle.prefilters.specs.FirstBytes.{count_first_bytes, is_first_byte};
+ghost use Rattle.prefilters.specs.FirstBytes.{count_first_bytes};
+ghost use Rattle.prefilters.specs.Bytes.{has_byte};
 
+use crate::bytes::add_range;
 use automata_base::nfa::thompson::closure::close;
 use automata_base::nfa::thompson::reach::{is_match, set_for};
 use automata_base::nfa::thompson::reading::target;
@@ -40,21 +42,11 @@ impl Model for FirstBytes {
     ghost invariant = { λ bytes. length bytes.table ≡ 256 };
 }
 
-/// Adds the bytes from `lo` to `hi` to the table.
-fn add_range(table: &mut [bool; 256], lo: u8, hi: u8)
-    ensures kept { (byte : ℕ) → is_first_byte table.old byte ≡ true → is_first_byte table.new byte ≡ true }
-    ensures added { (byte : ℕ) → within lo hi byte ≡ true → is_first_byte table.new byte ≡ true }
-{
-    for byte in usize::from(lo)..usize::from(hi) + 1 {
-        table[byte] = true;
-    }
-}
-
 /// Adds the bytes that a sparse state reads to the table.
 fn add_ranges(table: &mut [bool; 256], transitions: &[Transition])
-    ensures kept { (byte : ℕ) → is_first_byte table.old byte ≡ true → is_first_byte table.new byte ≡ true }
+    ensures kept { (byte : ℕ) → has_byte table.old byte ≡ true → has_byte table.new byte ≡ true }
     ensures added { (byte : ℕ) → is_some (takes_in (ranges_of transitions.now) byte) ≡ true
-        → is_first_byte table.new byte ≡ true }
+        → has_byte table.new byte ≡ true }
 {
     for transition in transitions {
         add_range(table, transition.lo, transition.hi);
@@ -63,9 +55,9 @@ fn add_ranges(table: &mut [bool; 256], transitions: &[Transition])
 
 /// Adds the bytes that a state of any kind reads to the table, by a test of each byte.
 fn add_tested(table: &mut [bool; 256], state: &State)
-    ensures kept { (byte : ℕ) → is_first_byte table.old byte ≡ true → is_first_byte table.new byte ≡ true }
+    ensures kept { (byte : ℕ) → has_byte table.old byte ≡ true → has_byte table.new byte ≡ true }
     ensures added { (byte : ℕ) → byte < 256 → is_some (takes_at (node_of state.now) byte) ≡ true
-        → is_first_byte table.new byte ≡ true }
+        → has_byte table.new byte ≡ true }
 {
     for byte in 0..256usize {
         if target(state, byte as u8).is_some() {
@@ -76,9 +68,9 @@ fn add_tested(table: &mut [bool; 256], state: &State)
 
 /// Adds the bytes that the state reads to the table.
 fn add_bytes(table: &mut [bool; 256], state: &State)
-    ensures kept { (byte : ℕ) → is_first_byte table.old byte ≡ true → is_first_byte table.new byte ≡ true }
+    ensures kept { (byte : ℕ) → has_byte table.old byte ≡ true → has_byte table.new byte ≡ true }
     ensures added { (byte : ℕ) → byte < 256 → is_some (takes_at (node_of state.now) byte) ≡ true
-        → is_first_byte table.new byte ≡ true }
+        → has_byte table.new byte ≡ true }
 {
     match state {
         State::ByteRange { lo, hi, .. } => add_range(table, *lo, *hi),

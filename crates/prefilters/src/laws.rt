@@ -1,7 +1,7 @@
 //! Laws by which a search may begin past offsets where no match begins. Each function does nothing: its contract is the
 //! law.
-ghost use Rattle.prefilters.specs.Needles.{BeginningsHaveNeedles, InnerAreNear, MeaningBeginsNone, NeedlesGrow};
-ghost use Rattle.prefilters.specs.Needles.{NeedlesJoin, NeedlesMeanNone, StartsAreNear};
+ghost use Rattle.prefilters.specs.Needles.{BeginningsHaveNeedles, HeadsLead, InnerAreNear, MeaningBeginsNone};
+ghost use Rattle.prefilters.specs.Needles.{NeedlesGrow, NeedlesJoin, NeedlesMeanNone, StartsAreNear};
 ghost use Rattle.prefilters.specs.Skipping.{AnchoredIsSpan, AnswersMove, NoneIsFound, SelectionsMove, SpansMove};
 ghost use Rattle.prefilters.specs.Skipping.{TruthsMove};
 
@@ -20,11 +20,12 @@ pub fn anchored_search_is_enough()
     ensures { AnchoredIsSpan }
 {}
 
-/// Where no needle is near, no match begins that has one near its start: needles with which matches begin, or that short
-/// matches contain. Where no match begins that the patterns mean, no path of their NFA begins.
+/// Where no needle is near, no match begins that has one near its start: needles with which matches begin, that short
+/// matches contain, or that come after a head of known bytes. Where no match begins that the patterns mean, no path of their NFA begins.
 pub fn needles_may_skip()
     ensures starts { StartsAreNear }
     ensures inner { InnerAreNear }
+    ensures heads { HeadsLead }
     ensures needles { NeedlesMeanNone }
     ensures meaning { MeaningBeginsNone }
     ensures join { NeedlesJoin }

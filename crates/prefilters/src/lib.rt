@@ -9,11 +9,14 @@
 //! match with its start, if it finds one, so no reverse search is needed.
 #![tactic(auto)]
 
+mod bytes;
 mod first_bytes;
+mod heads;
 pub mod laws;
 mod pairs;
 mod prefilter;
 mod threads;
 
 pub use first_bytes::FirstBytes;
+pub use heads::Head;
 pub use prefilter::{Needles, Prefilter};

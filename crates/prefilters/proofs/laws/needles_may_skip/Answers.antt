@@ -1,4 +1,4 @@
-use Rattle.prefilters.proofs.Joining.{beginnings, inner_are_near, needles_grow, needles_join, starts_are_near}
+use Rattle.prefilters.proofs.Joining.{beginnings, heads_lead, inner_are_near, needles_grow, needles_join, starts_are_near}
 use Rattle.prefilters.proofs.Meaning.{meaning_none, needles_none}
 use Rattle.prefilters.proofs.laws.needles_may_skip.Goals as goal
 
@@ -7,6 +7,9 @@ returns-clause-starts c = starts_are_near
 
 pub returns-clause-inner : goal.returns-clause-inner
 returns-clause-inner c = inner_are_near
+
+pub returns-clause-heads : goal.returns-clause-heads
+returns-clause-heads c = heads_lead
 
 pub returns-clause-needles : goal.returns-clause-needles
 returns-clause-needles c = needles_none

@@ -1,0 +1,9 @@
+use Rattle.std.proofs.Common.{ℕ, ◌<◌, ◌≤◌}
+use Rattle.prefilters.specs.Bytes.{HasOnly}
+use Rattle.prefilters.proofs.heads.run_start.Given as goal
+
+abbrev pub invariant-loop-first : goal.invariant-loop-first
+invariant-loop-first l = (l.start ≤ l.first) × (l.first ≤ l.at)
+
+abbrev pub decreases-loop-first : goal.decreases-loop-first
+decreases-loop-first l = l.first
