@@ -33,6 +33,7 @@ use Rattle.match_facts.specs.Prefixes.{BeginsWith}
 use Rattle.match_facts.proofs.Prefixes.{begins_there, starts_with_one}
 use Rattle.prefilters.specs.Needles.{AllHaveNeedleNear, AllStartWith, BeginsNearNeedle, HasNeedleNear, NearNeedles}
 use Rattle.prefilters.specs.Skipping.{IsLazy, NoneBeginsAt}
+use Rattle.prefilters.specs.declared.heads.Head.TheVariants.{Within}
 use Rattle.prefilters.proofs.Joining.{needles_grow, needles_join, starts_are_near}
 use Rattle.prefilters.proofs.Meaning.{meaning_none, needles_none}
 use Rattle.prefilters.proofs.Nowhere.{anchored_answers, anchored_none}
@@ -121,12 +122,12 @@ are_near options texts needles near may are res meanings i d l = may (get_or res
 -- what is searched for, if a search for the needles is built
 pub built_near :
     {E : Type 0} (needles others : List (List ℕ)) (r : Result (Option NearNeedles) E)
-    → IfOk r (λ o. IfSome o (λ p. p ≡ record { needles = others; reach = 0 })) → MayReplace needles others
+    → IfOk r (λ o. IfSome o (λ p. p ≡ record { needles = others; head = Within 0 })) → MayReplace needles others
     → IfOk r (λ o. IfSome o (AreNearFor needles))
 built_near needles others (Err e) is may = tt
 built_near needles others (Ok None) is may = tt
 built_near needles others (Ok (Some p)) is may =
-    subst (AreNearFor needles) (sym is) (λ re starts. starts_are_near re others 0 (may re starts))
+    subst (AreNearFor needles) (sym is) (λ re starts. starts_are_near re others (Within 0) (may re starts))
 
 -- the common prefix of needles, as the only needle
 pub common_only :

@@ -19,7 +19,6 @@ mod error;
 mod escapes;
 mod explain;
 mod facts;
-mod inner;
 pub mod laws;
 mod matches;
 mod needles;

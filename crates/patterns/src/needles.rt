@@ -9,7 +9,6 @@ ghost use Rattle.patterns.specs.Searches.{AreNearFor, AreNeedlesOf, HaveNeedlesN
 
 use crate::compile::{Options, parse};
 use crate::error::Fault;
-use crate::inner::after_head;
 use match_facts::common_prefix;
 use prefilters::{Head, Needles, Prefilter};
 use regex_extract::{max_len, prefixes, required};
@@ -243,7 +242,7 @@ fn inner_of(alloc: Global, hir: &Hir) -> Result<Option<Prefilter>, AllocError>
 {
     let most = match max_len(hir) {
         Some(most) if most <= SHORT => most,
-        _ => return after_head(alloc, hir),
+        _ => return Prefilter::after_head(alloc, hir),
     };
     match required(alloc, hir) {
         Ok(Some(needles)) if is_fast_inside(&needles) => Prefilter::for_inner(alloc, needles, most),

@@ -1,9 +1,9 @@
 -- The bytes of which matches consist.
-use Rattle.std.proofs.Common.{ℕ, zero, suc, ◌≡◌, ◌+◌, ◌-◌, ◌/◌, ◌%◌, ◌<◌, ◌≤◌, true, false, Bool, List, [], ◌∷◌, ◌++◌, All}
-use Rattle.std.proofs.Common.{length, drop, get_or, map, Option, Some, None, refl, sym, ap, ◌∙◌, subst, ⊎_elim, arith}
-use Rattle.std.proofs.Common.{slice_get, slice_index, encode_utf8, inl, inr, cond, ◌||◌, ◌&&◌, nat_le}
+use Rattle.std.proofs.Common.{ℕ, zero, suc, ◌≡◌, ◌+◌, ◌-◌, ◌<◌, ◌≤◌, true, false, Bool, List, [], ◌∷◌, ◌++◌, All}
+use Rattle.std.proofs.Common.{length, drop, get_or, Option, Some, None, refl, sym, ap, ◌∙◌, subst, ⊎_elim, arith}
+use Rattle.std.proofs.Common.{slice_index, encode_utf8, inl, inr, ◌||◌}
 use Rattle.std.proofs.Common.{get_or-drop}
-use Rattle.std.specs.Char.{IsScalar, len_utf8}
+use Rattle.std.specs.Char.{len_utf8}
 use Rattle.std.proofs.lemmas.Bool.{cases_lt}
 use Rattle.std.proofs.lemmas.List.{get_or_append_left}
 use Rattle.std.proofs.Common.{true≢false}
@@ -15,7 +15,7 @@ use Rattle.regex_class.proofs.RangesLemmas.{in_ranges-cons, in_ranges-nil}
 use Rattle.regex_hir.specs.Re.{Re, empty, literal, byte_in, char_in, look, cat, alt, group, plus}
 use Rattle.regex_hir.specs.Meaning.{alt_all, at_least, cat_all, copies, optional, repeat, up_to}
 use Rattle.regex_hir.specs.Matches.{Matches, Rounds, one_round, next_round}
-use Rattle.regex_hir.specs.Text.{has_bytes_at, char_at}
+use Rattle.regex_hir.specs.Text.{char_at}
 use Rattle.regex_hir.specs.declared.look.Look.{Look}
 use Rattle.regex_hir.proofs.TextLemmas.{char_at_fits, has_bytes_at_parts}
 use Rattle.regex_hir.proofs.Utf8Lemmas.{char_at_cases, encode_two, encode_three, encode_four}
@@ -87,6 +87,13 @@ high_byte hay i c k there more low high = elim (char_at_cases hay i c there).1 [
       (cases_lt k (i + 3))) (cases_lt k (i + 2))) (cases_lt k (i + 1)))
 ]
 
+-- the bytes at an offset, one by one
+pub byte_there :
+    (hay bs : List ℕ) (i k : ℕ) → drop i hay ≡ bs ++ drop (i + length bs) hay → k < length bs
+    → slice_index hay (i + k) ≡ get_or bs k 0
+byte_there hay bs i k e l =
+    sym (get_or-drop i hay k 0) ∙ ap (λ v. get_or v k 0) e ∙ get_or_append_left bs (drop (i + length bs) hay) 0 k l
+
 module _ (table : List Bool) where
   pub of_empty : ConsistsOf empty table
   of_empty hay bytes i j m k low high = absurd (omega (arith, m, low, high))
@@ -146,13 +153,6 @@ module _ (table : List Bool) where
   pub of_alt_all : (res : List Re) → All (λ re. ConsistsOf re table) res → ConsistsOf (alt_all res) table
   of_alt_all [] s = λ hay bytes i j m. absurd (no_range m.0 m.2)
   of_alt_all (re ∷ res) s = of_alt re (alt_all res) (s 0 re (omega arith)) (of_alt_all res (λ i d l. s (suc i) d (omega (arith, l))))
-
-  -- the bytes at an offset, one by one
-  byte_there :
-      (hay bs : List ℕ) (i k : ℕ) → drop i hay ≡ bs ++ drop (i + length bs) hay → k < length bs
-      → slice_index hay (i + k) ≡ get_or bs k 0
-  byte_there hay bs i k e l =
-      sym (get_or-drop i hay k 0) ∙ ap (λ v. get_or v k 0) e ∙ get_or_append_left bs (drop (i + length bs) hay) 0 k l
 
   pub of_literal : (bs : List ℕ) → All (λ b. has_byte table b ≡ true) bs → ConsistsOf (literal bs) table
   of_literal bs s hay bytes i j m k low high =

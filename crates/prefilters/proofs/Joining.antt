@@ -6,8 +6,7 @@ use Rattle.std.proofs.lemmas.List.Elements.{All-append}
 use Rattle.std.proofs.lemmas.List.{get_or_append_left, get_or-append-add, get_or-take, length-append, length-take}
 use Rattle.regex_class.specs.Ranges.{in_ranges}
 use Rattle.regex_hir.specs.Re.{Re}
-use Rattle.regex_extract.specs.Bounds.{IsMaxLen}
-use Rattle.regex_extract.specs.Needles.{ContainsNeedle, StandsWithin, StartsWithNeedle}
+use Rattle.regex_extract.specs.Needles.{StandsWithin, StartsWithNeedle}
 use Rattle.regex_literal.specs.Find.{AllAtMost, OccursAt, needle_at}
 use Rattle.meaning.specs.Patterns.{any_of}
 use Rattle.prefilters.specs.Needles.{AllHaveNeedleNear, AllStartWith, HasNeedleNear, NearNeedles, NoneOccurs}

@@ -9,3 +9,4 @@ mod Skips
 mod Lanes
 mod Covering
 pub mod Consisting
+mod Following

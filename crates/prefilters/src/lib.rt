@@ -5,6 +5,9 @@
 //! what it would have returned: by the ordered paths alone (`specs/Skipping.antt`), and by what the patterns mean
 //! (`specs/Needles.antt`).
 //!
+//! A literal inside of matches serves too: what comes before it in a match, the *head*, has at most some number of bytes,
+//! or only bytes of some table. With nothing known of the head, a search can still end early where the literal is missing.
+//!
 //! `FirstBytes` has the bytes with which matches of an NFA can begin. An anchored search from the first of them finds the
 //! match with its start, if it finds one, so no reverse search is needed.
 #![tactic(auto)]
@@ -12,6 +15,7 @@
 mod bytes;
 mod first_bytes;
 mod heads;
+mod inner;
 pub mod laws;
 mod pairs;
 mod prefilter;

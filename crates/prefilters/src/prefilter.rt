@@ -127,11 +127,7 @@ impl NeedleSearch {
 impl Prefilter {
     /// Returns the search for these needles, one of which comes after the head of each match; none if they are too many,
     /// or one is empty.
-    pub fn new(
-        alloc: Global,
-        needles: Needles,
-        head: Head,
-    ) -> Result<Option<Prefilter>, AllocError>
+    pub fn new(alloc: Global, needles: Needles, head: Head) -> Result<Option<Prefilter>, AllocError>
         ensures { IfOk result (λ o. IfSome o (λ p. p ≡ record { needles = needles_of needles; head = head })) }
     {
         let longest = longest(&needles);

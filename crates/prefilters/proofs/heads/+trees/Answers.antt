@@ -1,15 +1,15 @@
-use Rattle.std.proofs.Common.{ℕ, ◌≡◌, ◌∙◌, ◌<◌, ◌≤◌, All, Bool, List, ap, arith, get_or, length, map, subst, sym, true, ⊎_elim}
+use Rattle.std.proofs.Common.{◌≡◌, ◌∙◌, ◌<◌, ◌≤◌, All, Bool, List, ap, arith, get_or, map, subst, sym, true, ⊎_elim}
 use Rattle.std.proofs.lemmas.Bool.{cases_lt}
 use Rattle.std.proofs.lemmas.List.{get_or_default}
 use Rattle.std.proofs.lemmas.List.Elements.{All-map}
 use Rattle.regex_hir.specs.Re.{Re}
 use Rattle.regex_hir.specs.Meaning.{meaning}
 use Rattle.regex_hir.specs.declared.hir.Hir.{Hir}
-use Rattle.regex_hir.proofs.MeaningLemmas.{meaning-Alternation, meaning-Bytes, meaning-Capture, meaning-Chars}
+use Rattle.regex_hir.proofs.MeaningLemmas.{meaning-Alternation, meaning-Bytes, meaning-Chars}
 use Rattle.regex_hir.proofs.MeaningLemmas.{meaning-Concat, meaning-Literal, meaning-Repetition}
 use Rattle.prefilters.specs.Bytes.{KeepsBytes, has_byte}
 use Rattle.prefilters.specs.Heads.{ConsistsOf, HasCharacters, HasRange}
-use Rattle.prefilters.proofs.Consisting.{of_alt_all, of_bytes, of_cat_all, of_chars, of_group, of_literal, of_repeat}
+use Rattle.prefilters.proofs.Consisting.{of_alt_all, of_bytes, of_cat_all, of_chars, of_literal, of_repeat}
 use Rattle.prefilters.proofs.heads.+trees.Goals as goal
 
 -- the matches of a tree, by what the tree means
@@ -66,13 +66,14 @@ more_bytes re old new kept s hay bytes i j m k low high = kept _ (s hay bytes i 
 
 pub add_trees-loop-i-preserved : goal.add_trees-loop-i-preserved
 add_trees-loop-i-preserved t c =
-    let l = c.loop-i in let new = c.add_tree.new.table in let subs = c.args.subs.now in
-    (λ byte had. c.add_tree.ensures.kept byte (l.invariant.0 byte had),
-    λ n d lt. ⊎_elim
-    (λ (less : n < l.i). more_bytes (meaning (get_or subs n d)) l.table new c.add_tree.ensures.kept
-    (l.invariant.1 n d less))
-    (λ (more : l.i ≤ n).
-    let same : l.i ≡ n = omega (arith, lt, more) in
-    subst (λ v. ConsistsOf (meaning v) new)
-    (c.index-subs-i.is ∙ get_or_default subs l.i _ d c.loop-i-test.true ∙ ap (λ v. get_or subs v d) same)
-    c.add_tree.ensures.added) (cases_lt n l.i))
+    let l = c.loop-i in let new = c.add_tree.new.table in let subs = c.args.subs.now in (
+      λ byte had. c.add_tree.ensures.kept byte (l.invariant.0 byte had),
+      λ n d lt. ⊎_elim
+          (λ (less : n < l.i). more_bytes (meaning (get_or subs n d)) l.table new c.add_tree.ensures.kept
+          (l.invariant.1 n d less))
+          (λ (more : l.i ≤ n).
+          let same : l.i ≡ n = omega (arith, lt, more) in
+          subst (λ v. ConsistsOf (meaning v) new)
+          (c.index-subs-i.is ∙ get_or_default subs l.i _ d c.loop-i-test.true ∙ ap (λ v. get_or subs v d) same)
+          c.add_tree.ensures.added) (cases_lt n l.i),
+    )

@@ -1,5 +1,4 @@
-use Rattle.std.proofs.Common.{ℕ, ◌<◌, ◌≤◌}
-use Rattle.prefilters.specs.Bytes.{HasOnly}
+use Rattle.std.proofs.Common.{◌≤◌}
 use Rattle.prefilters.proofs.heads.run_start.Given as goal
 
 abbrev pub invariant-loop-first : goal.invariant-loop-first
