@@ -19,8 +19,8 @@ use Rattle.regex_hir.specs.Text.{char_at}
 use Rattle.regex_hir.specs.declared.look.Look.{Look}
 use Rattle.regex_hir.proofs.TextLemmas.{char_at_fits, has_bytes_at_parts}
 use Rattle.regex_hir.proofs.Utf8Lemmas.{char_at_cases, encode_two, encode_three, encode_four}
-use Rattle.prefilters.specs.Bytes.{HasOnly, has_byte}
-use Rattle.prefilters.specs.Heads.{ConsistsOf, HasCharacters, HasRange}
+use Rattle.prefilters.specs.Bytes.{HasOnlyBytesOf, in_table}
+use Rattle.prefilters.specs.Heads.{ConsistsOf, HasCharacters, HasBytesInRange}
 
 no_range : (b : ℕ) → in_ranges [] b ≡ true → ⊥
 no_range b e = true≢false (sym e ∙ in_ranges-nil b)
@@ -115,7 +115,7 @@ module _ (table : List Bool) where
 
   of_rounds :
       (a : Re) → ConsistsOf a table → (hay : List ℕ) → All (λ b. b < 256) hay → (i j : ℕ)
-      → Rounds (Matches hay a) i j → HasOnly hay table i j
+      → Rounds (Matches hay a) i j → HasOnlyBytesOf hay table i j
   of_rounds a s hay bytes i _ (one_round j r) = s hay bytes i j r
   of_rounds a s hay bytes i _ (next_round l j rs r) = λ k low high.
       ⊎_elim (λ (less : k < l). of_rounds a s hay bytes i l rs k low less)
@@ -148,26 +148,28 @@ module _ (table : List Bool) where
 
   pub of_cat_all : (res : List Re) → All (λ re. ConsistsOf re table) res → ConsistsOf (cat_all res) table
   of_cat_all [] s = of_empty
-  of_cat_all (re ∷ res) s = of_cat re (cat_all res) (s 0 re (omega arith)) (of_cat_all res (λ i d l. s (suc i) d (omega (arith, l))))
+  of_cat_all (re ∷ res) s =
+      of_cat re (cat_all res) (s 0 re (omega arith)) (of_cat_all res (λ i d l. s (suc i) d (omega (arith, l))))
 
   pub of_alt_all : (res : List Re) → All (λ re. ConsistsOf re table) res → ConsistsOf (alt_all res) table
   of_alt_all [] s = λ hay bytes i j m. absurd (no_range m.0 m.2)
-  of_alt_all (re ∷ res) s = of_alt re (alt_all res) (s 0 re (omega arith)) (of_alt_all res (λ i d l. s (suc i) d (omega (arith, l))))
+  of_alt_all (re ∷ res) s =
+      of_alt re (alt_all res) (s 0 re (omega arith)) (of_alt_all res (λ i d l. s (suc i) d (omega (arith, l))))
 
-  pub of_literal : (bs : List ℕ) → All (λ b. has_byte table b ≡ true) bs → ConsistsOf (literal bs) table
+  pub of_literal : (bs : List ℕ) → All (λ b. in_table table b ≡ true) bs → ConsistsOf (literal bs) table
   of_literal bs s hay bytes i j m k low high =
       let n : ℕ = k - i in
       let short : n < length bs = let e = m.1 in omega (arith, e, low, high) in
       let at : i + n ≡ k = omega (arith, low) in
-      subst (λ v. has_byte table v ≡ true) (sym (byte_there hay bs i n (has_bytes_at_parts hay i bs m.0) short)
+      subst (λ v. in_table table v ≡ true) (sym (byte_there hay bs i n (has_bytes_at_parts hay i bs m.0) short)
       ∙ ap (λ v. slice_index hay v) at) (s n 0 short)
 
-  pub of_bytes : (rs : List (ℕ × ℕ)) → All (HasRange table) rs → ConsistsOf (byte_in rs) table
+  pub of_bytes : (rs : List (ℕ × ℕ)) → All (HasBytesInRange table) rs → ConsistsOf (byte_in rs) table
   of_bytes rs s hay bytes i j (b, there, isin, e) k low high =
       let at : k ≡ i = omega (arith, low, high, e) in
       let is : slice_index hay i ≡ b = get_or_from_slice_get hay i b 0 there in
-      let w = in_some (HasRange table) rs b s isin in
-      subst (λ v. has_byte table v ≡ true) (sym is ∙ ap (slice_index hay) (sym at))
+      let w = in_some (HasBytesInRange table) rs b s isin in
+      subst (λ v. in_table table v ≡ true) (sym is ∙ ap (slice_index hay) (sym at))
       (w.1 b w.2 w.3 (subst (λ v. v < 256) is (bytes i 0 (slice_get_within hay i b there))))
 
   pub of_chars : (rs : List (ℕ × ℕ)) → All (HasCharacters table) rs → ConsistsOf (char_in rs) table
@@ -177,7 +179,7 @@ module _ (table : List Bool) where
       ⊎_elim (λ (less : c < 128).
       let one : len_utf8 c ≡ 1 = len_utf8_ascii c less in
       let at : i ≡ k = omega (arith, low, upto, one) in
-      subst (λ v. has_byte table v ≡ true) (sym (ascii_byte hay i c there less) ∙ ap (slice_index hay) at)
+      subst (λ v. in_table table v ≡ true) (sym (ascii_byte hay i c there less) ∙ ap (slice_index hay) at)
       (w.1.ascii c w.2 w.3 less))
       (λ (more : 128 ≤ c).
       let inside : k < length hay = omega (arith, upto, char_at_fits hay i c there) in

@@ -20,7 +20,7 @@ use Rattle.automata_base.proofs.Answers.Bytes.{nth_between}
 use Rattle.automata_base.proofs.Paths.Included.{Includes}
 use Rattle.automata_base.proofs.Paths.Walks.{hop_more, in_either}
 use Rattle.automata_base.proofs.Powersets.Walking.{node_at}
-use Rattle.prefilters.specs.Bytes.{has_byte}
+use Rattle.prefilters.specs.Bytes.{in_table}
 use Rattle.prefilters.specs.FirstBytes.{BeginsAtFirstByte, FindsFirstByte, ReadsFirstBytes}
 use Rattle.prefilters.specs.Skipping.{NoneBegins}
 
@@ -49,7 +49,7 @@ all_looks l.WordEndHalfUnicode = refl
 pub add_next :
     (states : List State) (ids : List ℕ) (old new : List Bool) (i id at : ℕ) (s : State)
     → i < length ids → id ≡ get_or ids i id → at ≡ id → at < length states → s ≡ get_or states at s
-    → ((byte : ℕ) → has_byte old byte ≡ true → has_byte new byte ≡ true) → ReadsFirstBytes new (node_of s)
+    → ((byte : ℕ) → in_table old byte ≡ true → in_table new byte ≡ true) → ReadsFirstBytes new (node_of s)
     → ((q : ℕ) → In q (take i ids) → ReadsFirstBytes old (node_in states q))
     → (q : ℕ) → In q (take (i + 1) ids) → ReadsFirstBytes new (node_in states q)
 add_next states ids old new i id at s l e a m t kept own before q j =
@@ -108,7 +108,7 @@ begins a looks slice items table all same closure lists kind h e o bytes none i 
 
     go : Leaves n (forward_tape h o e) 0 v.0 z → ⊥
     go (inl s) = own.unmatched (pattern, subst (λ w. accepts n w ≡ Some pattern) (sym s) match)
-    go (inr (next, (u, at, reads))) = none (before, subst (λ w. has_byte table w ≡ true) (sym byte) is_first)
+    go (inr (next, (u, at, reads))) = none (before, subst (λ w. in_table table w ≡ true) (sym byte) is_first)
       where
         before : o < e
         before =
@@ -126,7 +126,7 @@ begins a looks slice items table all same closure lists kind h e o bytes none i 
         byte : get_or h o 0 ≡ u
         byte = get_or_from_slice_get h o u 0 there
 
-        is_first : has_byte table u ≡ true
+        is_first : in_table table u ≡ true
         is_first = own.reads u (bytes o u there) (ap is_some reads)
 
 -- no match begins before the least offset that has a first byte

@@ -11,7 +11,7 @@ use Rattle.regex_literal.specs.Find.{AllAtMost, OccursAt, needle_at}
 use Rattle.meaning.specs.Patterns.{any_of}
 use Rattle.prefilters.specs.Needles.{AllHaveNeedleNear, AllStartWith, HasNeedleNear, NearNeedles, NoneOccurs}
 use Rattle.prefilters.specs.Needles.{AreNearInShort, HasNeedleAfter, ReachesAll}
-use Rattle.prefilters.specs.Heads.{IsHead, IsHeadOf}
+use Rattle.prefilters.specs.Heads.{FitsHead, IsHeadOf}
 use Rattle.prefilters.specs.declared.heads.Head.{Head}
 use Rattle.prefilters.specs.declared.heads.Head.TheVariants.{Any, Of, Within}
 
@@ -73,16 +73,16 @@ needles_join (re ∷ next ∷ res) near s hay bytes i j (inr m) =
     needles_join (next ∷ res) near (λ n d l. s (suc n) d (omega (arith, l))) hay bytes i j m
 
 -- the empty part of a match is a head
-nothing_is_head : (head : Head) (hay : List ℕ) (i : ℕ) → IsHead head hay i i
-nothing_is_head (Within most) hay i = omega arith
-nothing_is_head (Of table) hay i = λ k low high. absurd (omega (arith, low, high))
-nothing_is_head Any hay i = tt
+nothing_fits_head : (head : Head) (hay : List ℕ) (i : ℕ) → FitsHead head hay i i
+nothing_fits_head (Within most) hay i = omega arith
+nothing_fits_head (Of table) hay i = λ k low high. absurd (omega (arith, low, high))
+nothing_fits_head Any hay i = tt
 
 pub starts_are_near :
     (re : Re) (needles : List (List ℕ)) (head : Head) → StartsWithNeedle re needles
     → HasNeedleNear re (record { needles = needles; head = head })
 starts_are_near re needles head starts hay bytes i j m =
-    let w = starts hay bytes i j m in (w.0, i, w.1, nothing_is_head head hay i)
+    let w = starts hay bytes i j m in (w.0, i, w.1, nothing_fits_head head hay i)
 
 pub inner_are_near :
     (needles : List (List ℕ)) (reach most : ℕ) → ReachesAll needles reach most

@@ -12,7 +12,7 @@ use Rattle.automata_base.specs.Nfas.Engines.{Engine}
 use Rattle.meaning.specs.Agreeing.{Each, HasSameLooks, ImplementAll}
 use Rattle.meaning.specs.Patterns.{any_of}
 use Rattle.meaning.specs.Translated.{joined_engine}
-use Rattle.prefilters.specs.Heads.{IsHead, IsHeadOf}
+use Rattle.prefilters.specs.Heads.{FitsHead, IsHeadOf}
 use Rattle.prefilters.specs.Skipping.{NoneBegins, NoneBeginsAt}
 use Rattle.prefilters.specs.declared.heads.Head.{Head}
 use Rattle.prefilters.specs.declared.heads.Head.TheVariants.{Within}
@@ -36,7 +36,7 @@ pub record NearNeedles : Type 0 where
 -- from no offset from `s` to before offset `p` of the haystack such a head leads to a needle
 abbrev pub NoneIsNear : List ℕ → NearNeedles → (s p : ℕ) → Type 0
 NoneIsNear hay near s p =
-    (o k : ℕ) → s ≤ o → o < p → o ≤ k → IsHead near.head hay o k → AnyOccursAt hay near.needles k → ⊥
+    (o k : ℕ) → s ≤ o → o < p → o ≤ k → FitsHead near.head hay o k → AnyOccursAt hay near.needles k → ⊥
 
 -- the first offset from `s` to `e` where a needle may be near, as none is near before it; or None
 abbrev pub SkipsTo : List ℕ → NearNeedles → (s e : ℕ) → Option ℕ → Type 0
@@ -47,7 +47,7 @@ SkipsTo hay near s e (Some p) = (s ≤ p) × (p ≤ e) × NoneIsNear hay near s 
 abbrev pub HasNeedleNear : Re → NearNeedles → Type 0
 HasNeedleNear re near =
     (hay : List ℕ) → All (λ b. b < 256) hay → (i j : ℕ) → Matches hay re i j
-    → (n k : ℕ) × StandsWithin hay near.needles n k i j × IsHead near.head hay i k
+    → (n k : ℕ) × StandsWithin hay near.needles n k i j × FitsHead near.head hay i k
 
 -- every match begins with a match of `before`, after which a needle occurs in it
 abbrev pub HasNeedleAfter : Re → (before : Re) → (needles : List (List ℕ)) → Type 0

@@ -9,7 +9,7 @@ ghost use Rattle.automata_base.specs.Retraced.Reach.{node_in};
 ghost use Rattle.automata_base.specs.declared.util.search.MatchKind.{MatchKind};
 ghost use Rattle.prefilters.specs.FirstBytes.{BeginsAtFirstByte, FindsFirstByte, ReadsFirstBytes};
 ghost use Rattle.prefilters.specs.FirstBytes.{count_first_bytes};
-ghost use Rattle.prefilters.specs.Bytes.{has_byte};
+ghost use Rattle.prefilters.specs.Bytes.{in_table};
 
 use crate::bytes::add_range;
 use automata_base::nfa::thompson::closure::close;
@@ -44,9 +44,9 @@ impl Model for FirstBytes {
 
 /// Adds the bytes that a sparse state reads to the table.
 fn add_ranges(table: &mut [bool; 256], transitions: &[Transition])
-    ensures kept { (byte : ℕ) → has_byte table.old byte ≡ true → has_byte table.new byte ≡ true }
+    ensures kept { (byte : ℕ) → in_table table.old byte ≡ true → in_table table.new byte ≡ true }
     ensures added { (byte : ℕ) → is_some (takes_in (ranges_of transitions.now) byte) ≡ true
-        → has_byte table.new byte ≡ true }
+        → in_table table.new byte ≡ true }
 {
     for transition in transitions {
         add_range(table, transition.lo, transition.hi);
@@ -55,9 +55,9 @@ fn add_ranges(table: &mut [bool; 256], transitions: &[Transition])
 
 /// Adds the bytes that a state of any kind reads to the table, by a test of each byte.
 fn add_tested(table: &mut [bool; 256], state: &State)
-    ensures kept { (byte : ℕ) → has_byte table.old byte ≡ true → has_byte table.new byte ≡ true }
+    ensures kept { (byte : ℕ) → in_table table.old byte ≡ true → in_table table.new byte ≡ true }
     ensures added { (byte : ℕ) → byte < 256 → is_some (takes_at (node_of state.now) byte) ≡ true
-        → has_byte table.new byte ≡ true }
+        → in_table table.new byte ≡ true }
 {
     for byte in 0..256usize {
         if target(state, byte as u8).is_some() {
@@ -68,9 +68,9 @@ fn add_tested(table: &mut [bool; 256], state: &State)
 
 /// Adds the bytes that the state reads to the table.
 fn add_bytes(table: &mut [bool; 256], state: &State)
-    ensures kept { (byte : ℕ) → has_byte table.old byte ≡ true → has_byte table.new byte ≡ true }
+    ensures kept { (byte : ℕ) → in_table table.old byte ≡ true → in_table table.new byte ≡ true }
     ensures added { (byte : ℕ) → byte < 256 → is_some (takes_at (node_of state.now) byte) ≡ true
-        → has_byte table.new byte ≡ true }
+        → in_table table.new byte ≡ true }
 {
     match state {
         State::ByteRange { lo, hi, .. } => add_range(table, *lo, *hi),

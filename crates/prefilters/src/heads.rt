@@ -1,8 +1,8 @@
 //! Heads, the parts of matches before a needle in them, and the bytes of which they consist.
 ghost use Rattle.std.specs.Prelude.{◌≡◌, ◌<◌, ◌≤◌, ℕ, All, length, map, slice_index, true};
 ghost use Rattle.regex_hir.specs.Meaning.{cat_all, meaning};
-ghost use Rattle.prefilters.specs.Bytes.{KeepsBytes, has_byte};
-ghost use Rattle.prefilters.specs.Heads.{ConsistsOf, HasCharacters, HasRange, IsHeadOf, StartsRun};
+ghost use Rattle.prefilters.specs.Bytes.{KeepsBytes, in_table};
+ghost use Rattle.prefilters.specs.Heads.{ConsistsOf, HasCharacters, HasBytesInRange, IsHeadOf, StartsRun};
 
 use crate::bytes::add_range;
 use regex_class::ClassRange;
@@ -22,7 +22,7 @@ pub enum Head {
 /// Adds the bytes from `lo` to `hi`, but none above `most`, to the table.
 fn add_up_to(table: &mut [bool; 256], lo: u32, hi: u32, most: u8)
     ensures kept { KeepsBytes table.old table.new }
-    ensures added { (byte : ℕ) → lo ≤ byte → byte ≤ hi → byte ≤ most → has_byte table.new byte ≡ true }
+    ensures added { (byte : ℕ) → lo ≤ byte → byte ≤ hi → byte ≤ most → in_table table.new byte ≡ true }
 {
     if lo <= u32::from(most) {
         let end = hi.min(u32::from(most));
@@ -33,7 +33,7 @@ fn add_up_to(table: &mut [bool; 256], lo: u32, hi: u32, most: u8)
 /// Adds the bytes of a class of bytes to the table.
 fn add_byte_class(table: &mut [bool; 256], ranges: &[ClassRange])
     ensures kept { KeepsBytes table.old table.new }
-    ensures added { All (HasRange table.new) ranges.now }
+    ensures added { All (HasBytesInRange table.new) ranges.now }
 {
     for range in ranges {
         add_up_to(table, range.0, range.1, 0xFF);
@@ -65,7 +65,7 @@ fn add_character_class(table: &mut [bool; 256], ranges: &[ClassRange])
 /// Adds the bytes of a literal to the table.
 fn add_literal(table: &mut [bool; 256], bytes: &[u8])
     ensures kept { KeepsBytes table.old table.new }
-    ensures added { All (λ byte. has_byte table.new byte ≡ true) bytes.now }
+    ensures added { All (λ byte. in_table table.new byte ≡ true) bytes.now }
 {
     for byte in bytes {
         table[usize::from(*byte)] = true;
@@ -117,7 +117,7 @@ impl Head {
     }
 }
 
-/// Returns the first offset, not before `start`, from which on the haystack has only bytes of the table to before `at`.
+/// Returns the first offset, back to `start`, from which on the haystack has only bytes of the table to before `at`.
 pub(crate) fn run_start(table: &[bool; 256], hay: &[u8], start: usize, at: usize) -> usize
     requires order { start ≤ at }
     requires within { at ≤ length hay.now }

@@ -7,8 +7,8 @@ use Rattle.regex_hir.specs.Meaning.{meaning}
 use Rattle.regex_hir.specs.declared.hir.Hir.{Hir}
 use Rattle.regex_hir.proofs.MeaningLemmas.{meaning-Alternation, meaning-Bytes, meaning-Chars}
 use Rattle.regex_hir.proofs.MeaningLemmas.{meaning-Concat, meaning-Literal, meaning-Repetition}
-use Rattle.prefilters.specs.Bytes.{KeepsBytes, has_byte}
-use Rattle.prefilters.specs.Heads.{ConsistsOf, HasCharacters, HasRange}
+use Rattle.prefilters.specs.Bytes.{KeepsBytes, in_table}
+use Rattle.prefilters.specs.Heads.{ConsistsOf, HasCharacters, HasBytesInRange}
 use Rattle.prefilters.proofs.Consisting.{of_alt_all, of_bytes, of_cat_all, of_chars, of_literal, of_repeat}
 use Rattle.prefilters.proofs.heads.+trees.Goals as goal
 
@@ -21,14 +21,14 @@ add_tree-returns-in-Literal-clause-added t c =
     let table = c.add_literal.new.table in
     of_tree _ _ table (ap meaning c.in-Literal.is ∙ meaning-Literal c.in-Literal.bytes)
     (of_literal table c.in-Literal.bytes.items
-    (subst (All (λ b. has_byte table b ≡ true)) c.deref.ensures.value c.add_literal.ensures.added))
+    (subst (All (λ b. in_table table b ≡ true)) c.deref.ensures.value c.add_literal.ensures.added))
 
 pub add_tree-returns-in-Bytes-clause-added : goal.add_tree-returns-in-Bytes-clause-added
 add_tree-returns-in-Bytes-clause-added t c =
     let table = c.add_byte_class.new.table in
     of_tree _ _ table (ap meaning c.in-Bytes.is ∙ meaning-Bytes c.in-Bytes.class)
     (of_bytes table c.in-Bytes.class.ranges.items
-    (subst (All (HasRange table)) c.deref-in-Bytes.ensures.value c.add_byte_class.ensures.added))
+    (subst (All (HasBytesInRange table)) c.deref-in-Bytes.ensures.value c.add_byte_class.ensures.added))
 
 pub add_tree-returns-in-Chars-clause-added : goal.add_tree-returns-in-Chars-clause-added
 add_tree-returns-in-Chars-clause-added t c =

@@ -1,4 +1,5 @@
-use Rattle.prefilters.proofs.Joining.{beginnings, heads_lead, inner_are_near, needles_grow, needles_join, starts_are_near}
+use Rattle.prefilters.proofs.Joining.{beginnings, heads_lead, inner_are_near, needles_grow, needles_join}
+use Rattle.prefilters.proofs.Joining.{starts_are_near}
 use Rattle.prefilters.proofs.Meaning.{meaning_none, needles_none}
 use Rattle.prefilters.proofs.laws.needles_may_skip.Goals as goal
 
