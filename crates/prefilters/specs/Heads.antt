@@ -34,7 +34,8 @@ pub record HasCharacters (table : List Bool) (range : ℕ × ℕ) : Type 0 where
   -- the bytes of other characters
   pub beyond : (byte : ℕ) → 128 ≤ range.1 → 128 ≤ byte → byte < 256 → in_table table byte ≡ true
 
--- offset `first` is the first one, back to `start`, from which on the haystack has only bytes of the table to before `at`
+-- Offset `first` is the first one, back to `start`, from which on the haystack has only bytes of the table to before
+-- offset `at`.
 pub record StartsRun (table : List Bool) (hay : List ℕ) (start at first : ℕ) : Type 0 where
   -- it is not before the start
   pub from : start ≤ first
