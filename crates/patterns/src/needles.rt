@@ -10,8 +10,8 @@ ghost use Rattle.patterns.specs.Searches.{AreNearFor, AreNeedlesOf, HaveNeedlesN
 use crate::compile::{Options, parse};
 use crate::error::Fault;
 use match_facts::common_prefix;
-use prefilters::{Head, Needles, Prefilter};
-use regex_extract::{max_len, prefixes, required};
+use prefilters::{Head, Needles, Prefilter, first_literals};
+use regex_extract::{max_len, required};
 use regex_hir::Hir;
 use std::alloc::{AllocError, Global};
 
@@ -32,7 +32,7 @@ fn needles_of_text(alloc: Global, text: &str, options: &Options) -> Result<Optio
     ensures { IfOk result (λ o. IfSome o (λ v. AreNeedlesOf options.now (text.now ∷ []) (needles_of v))) }
 {
     let parsed = parse(alloc, text, options)?;
-    match prefixes(alloc, &parsed.hir) {
+    match first_literals(alloc, &parsed.hir) {
         Ok(needles) => Ok(needles),
         Err(error) => Err(Fault::from(error)),
     }

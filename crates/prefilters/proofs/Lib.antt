@@ -10,3 +10,4 @@ mod Lanes
 mod Covering
 pub mod Consisting
 mod Following
+mod Starting

@@ -1,4 +1,5 @@
 pub mod Skipping
+pub mod Beginnings
 pub mod Bytes
 pub mod Heads
 pub mod Needles

@@ -12,6 +12,7 @@
 //! match with its start, if it finds one, so no reverse search is needed.
 #![tactic(auto)]
 
+mod beginnings;
 mod bytes;
 mod first_bytes;
 mod heads;
@@ -21,6 +22,7 @@ mod pairs;
 mod prefilter;
 mod threads;
 
+pub use beginnings::first_literals;
 pub use first_bytes::FirstBytes;
 pub use heads::Head;
 pub use prefilter::{Needles, Prefilter};

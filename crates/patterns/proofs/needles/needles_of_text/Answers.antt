@@ -6,4 +6,4 @@ pub returns-in-Ok : goal.returns-in-Ok
 returns-in-Ok c =
     if_some c.in-Ok.needles _ _
     (λ v starts. needles_of_tree c.args.options.now c.args.text.now c.in_ok-parsed.parsed.hir _ (needles_of v)
-    c.in_ok-parsed.ensures.read starts) c.in-Ok.ensures.starts
+    c.in_ok-parsed.ensures.read starts) c.in-Ok.ensures
