@@ -2,7 +2,7 @@
 ghost use Rattle.std.specs.Prelude.{◌≡◌, ◌≤◌, IfOk, IfSome, length, map};
 ghost use Rattle.regex_extract.specs.Needles.{StartsWithNeedle, needles_of};
 ghost use Rattle.regex_hir.specs.Meaning.{alt_all, cat_all, meaning};
-ghost use Rattle.prefilters.specs.Beginnings.{AreBeginnings, IsBeginningOf};
+ghost use Rattle.prefilters.specs.Beginnings.{AreBeginnings, BeginsWithOneOf};
 
 use crate::prefilter::Needles;
 use regex_class::Class;
@@ -142,7 +142,7 @@ fn sequence(alloc: Global, subs: &[Hir]) -> Result<Hir, AllocError>
 /// literals together.
 #[cycle(begins)]
 fn beginning(alloc: Global, hir: &Hir, most: usize) -> Result<Hir, AllocError>
-    ensures { IfOk result (λ h. IsBeginningOf (meaning hir.now) (meaning h)) }
+    ensures { IfOk result (λ h. BeginsWithOneOf (meaning hir.now) (meaning h)) }
 {
     match hir {
         Hir::Capture { sub, .. } => beginning(alloc, sub, most),
