@@ -124,16 +124,15 @@ fn searches_begin_at_the_start_or_later(rt: HostRuntime) -> Result<(), Fail> {
     let mut searcher = Searcher::new(alloc, regex)?;
     let (hay, start) = ("so дo o".as_bytes(), 1);
     assert!(rt; start <= hay.len());
-    assert!(rt; searcher.is_match(hay) && searcher.is_match_at(hay, start));
-    assert_eq!(rt; start_of(searcher.find(hay)), Some(0));
-    assert_eq!(rt; start_of(searcher.find_at(hay, start)), Some(7));
     assert_eq!(rt; start_of(searcher.captures(hay, &mut captures)), Some(0));
-    assert!(rt; captures.get(1).is_some());
     assert_eq!(rt;
         start_of(searcher.captures_at(hay, start, &mut captures)),
         Some(7)
     );
     assert!(rt; captures.get(1).is_none());
+    assert_eq!(rt; start_of(searcher.find(hay)), Some(0));
+    assert_eq!(rt; start_of(searcher.find_at(hay, start)), Some(7));
+    assert!(rt; searcher.is_match(hay) && searcher.is_match_at(hay, start));
     Ok(())
 }
 
