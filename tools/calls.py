@@ -12,7 +12,7 @@ import textwrap
 import index  # of this folder
 
 # The crates whose calls users make, with all that these pass on.
-USED = ["lexer", "patterns", "regex_automata", "replay"]
+USED = ["lexer", "meta", "patterns", "regex_automata", "replay"]
 # What the methods of a trait do; those of other traits are not listed.
 TRAITS = {"": "", "Iterator": "The next item, or none.", "Clone": "A clone.", "Default": "The default."}
 ITEM = re.compile(r"pub (?:const )?(struct|enum|fn|const|type) (\w+)")
@@ -23,15 +23,15 @@ EVERYWHERE = ["IsAllowed", "IsChecked", "IsId", "known_of", "dfa_of", "nfa_of", 
 WIDTH = 119
 CALLS_HEAD = """# The public calls
 
-Each call of the crates `lexer`, `patterns`, `regex_automata` and `replay`, in the module from which you import it: its
-signature without clauses and ghost parameters, and the first sentence of its docstring. Each type comes before its
-calls, with its public fields or its variants. [CLAUSES](CLAUSES.md) has what is proved of each call; the headers in `bindings/c/include` have
+Each call of the crates `lexer`, `meta`, `patterns`, `regex_automata` and `replay`, in the module from which you import
+it: its signature without clauses and ghost parameters, and the first sentence of its docstring. Each type comes before
+its calls, with its public fields or its variants. [CLAUSES](CLAUSES.md) has what is proved of each call; the headers in `bindings/c/include` have
 the calls for C. `tools/documents.py --write` writes this page.
 """
 CLAUSES_HEAD = """# The clauses of the public calls
 
-Each call of the crates `lexer`, `patterns`, `regex_automata` and `replay`, and each export of the library for C: the
-clauses of its contract, with the definitions that they name, and what each law says. [PROVED](../PROVED.md#the-clauses-of-each-call)
+Each call of the crates `lexer`, `meta`, `patterns`, `regex_automata` and `replay`, and each export of the library for
+C: the clauses of its contract, with the definitions that they name, and what each law says. [PROVED](../PROVED.md#the-clauses-of-each-call)
 says how to read them, and [CALLS](CALLS.md) what each call is for. `tools/documents.py --write` writes this page.
 """
 

@@ -46,7 +46,7 @@ impl GroupMemory {
         ensures rooms { AreRoomsOf self.new.simulations.items programs.now.list.items }
         ensures captures { self.new.captures ≡ self.old.captures }
     {
-        programs.find(&mut self.simulations, hay, start)
+        programs.find_at(&mut self.simulations, hay, start)
     }
 }
 

@@ -27,7 +27,7 @@ impl Drop for Program {
 /// let programs = Programs::new(alloc, &texts, &options)?;
 /// let mut simulations = programs.create_simulations(alloc)?;
 /// let mut captures = programs.create_captures(alloc)?;
-/// if let Some(found) = pattern.find(&mut cache, hay, 0)? {
+/// if let Some(found) = pattern.find(&mut cache, hay)? {
 ///     programs.groups_of(&mut simulations, hay, &found, &mut captures);
 /// }
 /// ```

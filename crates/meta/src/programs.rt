@@ -124,7 +124,7 @@ impl Programs {
     ///
     /// The time is that of the haystack from `start` to the end of the match, times the states of the NFAs, at most. A
     /// lazy DFA was six to nine times as fast in what was tried.
-    pub fn find(&self, simulations: &mut [Simulation], hay: &[u8], start: usize) -> Option<Match>
+    pub fn find_at(&self, simulations: &mut [Simulation], hay: &[u8], start: usize) -> Option<Match>
         requires rooms { AreRoomsOf simulations.old self.now.list.items }
         requires within { start ≤ length hay.now }
         ensures found { (res : List Re) → FindAllGroups self.now.list.items res
@@ -145,14 +145,14 @@ impl Programs {
     }
 
     /// Whether a match of the texts begins at `start` or later, by simulations alone.
-    pub fn is_match(&self, simulations: &mut [Simulation], hay: &[u8], start: usize) -> bool
+    pub fn is_match_at(&self, simulations: &mut [Simulation], hay: &[u8], start: usize) -> bool
         requires rooms { AreRoomsOf simulations.old self.now.list.items }
         requires within { start ≤ length hay.now }
         ensures found { (res : List Re) → FindAllGroups self.now.list.items res
             → result ≡ is_some (find_any self.now.utf8 res hay.now start) }
         ensures rooms { AreRoomsOf simulations.new self.now.list.items }
     {
-        self.find(simulations, hay, start).is_some()
+        self.find_at(simulations, hay, start).is_some()
     }
 
     /// Returns the match after one that ended at `last`, which is not an empty match there; the first match if `last` is
@@ -172,7 +172,7 @@ impl Programs {
     {
         match last {
             Some(end) => self.find_after(simulations, hay, end),
-            None => self.find(simulations, hay, 0),
+            None => self.find_at(simulations, hay, 0),
         }
     }
 
@@ -185,7 +185,7 @@ impl Programs {
         ensures past { IfSome result (LiesAfter hay.now (Some end)) }
         ensures rooms { AreRoomsOf simulations.new self.now.list.items }
     {
-        let found = match self.find(simulations, hay, end) {
+        let found = match self.find_at(simulations, hay, end) {
             Some(found) => found,
             None => return None,
         };
@@ -195,7 +195,7 @@ impl Programs {
         if end == hay.len() {
             return None;
         }
-        self.find(simulations, hay, end + 1)
+        self.find_at(simulations, hay, end + 1)
     }
 
     /// Finds the groups of a match that a search for these texts returned, in the haystack that was searched. It reads

@@ -36,7 +36,7 @@ use std::alloc::{AllocError, Global};
 /// let regex = Regex::new(alloc, r"\b(\w+)=(\w*)", &Options::default())?;
 /// let mut cache = regex.create_cache(alloc)?;
 /// let mut captures = regex.create_captures(alloc)?;
-/// if let Some(_) = regex.captures(&mut cache, line, 0, &mut captures) {
+/// if let Some(_) = regex.captures(&mut cache, line, &mut captures) {
 ///     let key = captures.get(1);
 /// }
 /// ```
@@ -173,46 +173,75 @@ impl Regex {
         !self.words || hay.is_ascii()
     }
 
-    /// Returns the leftmost match that begins at `at` or later; of those that begin there, the one that the regex
-    /// prefers.
-    ///
-    /// If some text has a Unicode word boundary, each call first tests whether the whole haystack is ASCII. To find all
-    /// matches, call `find_iter`, which tests it once.
-    pub fn find(&self, cache: &mut Cache, hay: &[u8], at: usize) -> Option<Match>
-        requires of { IsMetaCacheOf cache.old self.now }
-        requires within { at ≤ length hay.now }
+    /// Whether some part of the haystack is a match. It tests the haystack as `find` does.
+    pub fn is_match(&self, cache: &mut Cache, hay: &[u8]) -> bool
+        requires { IsMetaCacheOf cache.old self.now }
         ensures found { (o : options.Options) (res : List Re) → IsMetaRegexOf o res self.now → IsTextFor o hay.now
-            → result ≡ option_map (numbered_match res hay.now) (find_any o.utf8 res hay.now at) }
-        ensures within { IfSome result (λ m. (at ≤ m.start) × (m.end ≤ length hay.now)) }
+            → result ≡ is_some (find_any o.utf8 res hay.now 0) }
         ensures searched { IsMetaAnswer self.now hay.now cache.old.dfas cache.new.dfas
-            (IsSpanSearch self.now.pattern hay.now at cache.old.dfas cache.new.dfas) result }
+            (IsTruthSearch self.now.pattern hay.now 0 cache.old.dfas cache.new.dfas) result }
+        ensures of { IsMetaCacheOf cache.new self.now }
+    {
+        self.is_match_at(cache, hay, 0)
+    }
+
+    /// Whether a match begins at `start` or later. It tests the haystack as `find` does.
+    pub fn is_match_at(&self, cache: &mut Cache, hay: &[u8], start: usize) -> bool
+        requires of { IsMetaCacheOf cache.old self.now }
+        requires within { start ≤ length hay.now }
+        ensures found { (o : options.Options) (res : List Re) → IsMetaRegexOf o res self.now → IsTextFor o hay.now
+            → result ≡ is_some (find_any o.utf8 res hay.now start) }
+        ensures searched { IsMetaAnswer self.now hay.now cache.old.dfas cache.new.dfas
+            (IsTruthSearch self.now.pattern hay.now start cache.old.dfas cache.new.dfas) result }
         ensures of { IsMetaCacheOf cache.new self.now }
     {
         if !self.suits_dfas(hay) {
-            return self.programs.find(&mut cache.simulations, hay, at);
+            return self
+                .programs
+                .is_match_at(&mut cache.simulations, hay, start);
         }
-        match self.pattern.find(&mut cache.dfas, hay, at) {
-            Ok(found) => found,
-            Err(_) => self.programs.find(&mut cache.simulations, hay, at),
+        match self.pattern.is_match_at(&mut cache.dfas, hay, start) {
+            Ok(truth) => truth,
+            Err(_) => self
+                .programs
+                .is_match_at(&mut cache.simulations, hay, start),
         }
     }
 
-    /// Whether a match begins at `at` or later. It tests the haystack as `find` does.
-    pub fn is_match(&self, cache: &mut Cache, hay: &[u8], at: usize) -> bool
-        requires of { IsMetaCacheOf cache.old self.now }
-        requires within { at ≤ length hay.now }
+    /// Returns the leftmost match of the haystack; of several that begin at one offset, the one that the regex prefers.
+    ///
+    /// If some text has a Unicode word boundary, each call first tests whether the whole haystack is ASCII. To find all
+    /// matches, call `find_iter`, which tests it once.
+    pub fn find(&self, cache: &mut Cache, hay: &[u8]) -> Option<Match>
+        requires { IsMetaCacheOf cache.old self.now }
         ensures found { (o : options.Options) (res : List Re) → IsMetaRegexOf o res self.now → IsTextFor o hay.now
-            → result ≡ is_some (find_any o.utf8 res hay.now at) }
+            → result ≡ option_map (numbered_match res hay.now) (find_any o.utf8 res hay.now 0) }
+        ensures within { IfSome result (λ m. m.end ≤ length hay.now) }
         ensures searched { IsMetaAnswer self.now hay.now cache.old.dfas cache.new.dfas
-            (IsTruthSearch self.now.pattern hay.now at cache.old.dfas cache.new.dfas) result }
+            (IsSpanSearch self.now.pattern hay.now 0 cache.old.dfas cache.new.dfas) result }
+        ensures of { IsMetaCacheOf cache.new self.now }
+    {
+        self.find_at(cache, hay, 0)
+    }
+
+    /// Returns the leftmost match that begins at `start` or later; of those that begin there, the one that the regex
+    /// prefers. It tests the whole haystack as `find` does, not only from `start` on.
+    pub fn find_at(&self, cache: &mut Cache, hay: &[u8], start: usize) -> Option<Match>
+        requires of { IsMetaCacheOf cache.old self.now }
+        requires within { start ≤ length hay.now }
+        ensures found { (o : options.Options) (res : List Re) → IsMetaRegexOf o res self.now → IsTextFor o hay.now
+            → result ≡ option_map (numbered_match res hay.now) (find_any o.utf8 res hay.now start) }
+        ensures within { IfSome result (λ m. (start ≤ m.start) × (m.end ≤ length hay.now)) }
+        ensures searched { IsMetaAnswer self.now hay.now cache.old.dfas cache.new.dfas
+            (IsSpanSearch self.now.pattern hay.now start cache.old.dfas cache.new.dfas) result }
         ensures of { IsMetaCacheOf cache.new self.now }
     {
         if !self.suits_dfas(hay) {
-            return self.programs.is_match(&mut cache.simulations, hay, at);
+            return self.programs.find_at(&mut cache.simulations, hay, start);
         }
-        match self.pattern.is_match_at(&mut cache.dfas, hay, at) {
-            Ok(truth) => truth,
-            Err(_) => self.programs.is_match(&mut cache.simulations, hay, at),
+        match self.pattern.find_at(&mut cache.dfas, hay, start) {
+            Ok(found) => found,
+            Err(_) => self.programs.find_at(&mut cache.simulations, hay, start),
         }
     }
 
@@ -265,28 +294,47 @@ impl Regex {
 
     /// Returns the match that `find` returns, and stores it with its groups in the captures. If there is no match, the
     /// captures are empty.
-    pub fn captures(
+    pub fn captures(&self, cache: &mut Cache, hay: &[u8], captures: &mut Captures) -> Option<Match>
+        requires of { IsMetaCacheOf cache.old self.now }
+        requires room { HaveRoomFor captures.old self.now.programs }
+        ensures found { (o : options.Options) (res : List Re) → IsMetaRegexOf o res self.now → IsTextFor o hay.now
+            → result ≡ option_map (numbered_match res hay.now) (find_any o.utf8 res hay.now 0) }
+        ensures groups { (o : options.Options) (res : List Re) → IsMetaRegexOf o res self.now → IsTextFor o hay.now
+            → HoldFound (find_any o.utf8 res hay.now 0) captures.new }
+        ensures stored { HoldMatch result captures.new }
+        ensures within { IfSome result (λ m. m.end ≤ length hay.now) }
+        ensures searched { IsMetaAnswer self.now hay.now cache.old.dfas cache.new.dfas
+            (IsSpanSearch self.now.pattern hay.now 0 cache.old.dfas cache.new.dfas) result }
+        ensures of { IsMetaCacheOf cache.new self.now }
+        ensures room { HaveRoomFor captures.new self.now.programs }
+    {
+        self.captures_at(cache, hay, 0, captures)
+    }
+
+    /// Returns the match that `find_at` returns, and stores it with its groups in the captures. If there is no match,
+    /// the captures are empty.
+    pub fn captures_at(
         &self,
         cache: &mut Cache,
         hay: &[u8],
-        at: usize,
+        start: usize,
         captures: &mut Captures,
     ) -> Option<Match>
         requires of { IsMetaCacheOf cache.old self.now }
         requires room { HaveRoomFor captures.old self.now.programs }
-        requires within { at ≤ length hay.now }
+        requires within { start ≤ length hay.now }
         ensures found { (o : options.Options) (res : List Re) → IsMetaRegexOf o res self.now → IsTextFor o hay.now
-            → result ≡ option_map (numbered_match res hay.now) (find_any o.utf8 res hay.now at) }
+            → result ≡ option_map (numbered_match res hay.now) (find_any o.utf8 res hay.now start) }
         ensures groups { (o : options.Options) (res : List Re) → IsMetaRegexOf o res self.now → IsTextFor o hay.now
-            → HoldFound (find_any o.utf8 res hay.now at) captures.new }
+            → HoldFound (find_any o.utf8 res hay.now start) captures.new }
         ensures stored { HoldMatch result captures.new }
-        ensures within { IfSome result (λ m. (at ≤ m.start) × (m.end ≤ length hay.now)) }
+        ensures within { IfSome result (λ m. (start ≤ m.start) × (m.end ≤ length hay.now)) }
         ensures searched { IsMetaAnswer self.now hay.now cache.old.dfas cache.new.dfas
-            (IsSpanSearch self.now.pattern hay.now at cache.old.dfas cache.new.dfas) result }
+            (IsSpanSearch self.now.pattern hay.now start cache.old.dfas cache.new.dfas) result }
         ensures of { IsMetaCacheOf cache.new self.now }
         ensures room { HaveRoomFor captures.new self.now.programs }
     {
-        let Some(found) = self.find(cache, hay, at) else {
+        let Some(found) = self.find_at(cache, hay, start) else {
             captures.clear();
             return None;
         };

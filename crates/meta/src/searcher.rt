@@ -17,7 +17,7 @@ use std::alloc::{AllocError, Global};
 ///
 /// ```rust
 /// let mut searcher = Searcher::new(alloc, Regex::new(alloc, r"\bif\b", &Options::default())?)?;
-/// let found = searcher.find(line, 0);
+/// let found = searcher.find(line);
 /// ```
 pub struct Searcher {
     regex: Regex,
@@ -53,41 +53,82 @@ impl Searcher {
         &self.regex
     }
 
-    /// Returns the leftmost match that begins at `at` or later, as `Regex::find` does.
-    pub fn find(&mut self, hay: &[u8], at: usize) -> Option<Match>
-        requires { at ≤ length hay.now }
+    /// Whether some part of the haystack is a match.
+    pub fn is_match(&mut self, hay: &[u8]) -> bool
         ensures found { (o : options.Options) (res : List Re) → IsMetaRegexOf o res self.old.regex → IsTextFor o hay.now
-            → result ≡ option_map (numbered_match res hay.now) (find_any o.utf8 res hay.now at) }
-        ensures within { IfSome result (λ m. (at ≤ m.start) × (m.end ≤ length hay.now)) }
+            → result ≡ is_some (find_any o.utf8 res hay.now 0) }
         ensures regex { self.new.regex ≡ self.old.regex }
     {
-        self.regex.find(&mut self.cache, hay, at)
+        self.is_match_at(hay, 0)
     }
 
-    /// Whether a match begins at `at` or later.
-    pub fn is_match(&mut self, hay: &[u8], at: usize) -> bool
-        requires { at ≤ length hay.now }
+    /// Whether a match begins at `start` or later.
+    pub fn is_match_at(&mut self, hay: &[u8], start: usize) -> bool
+        requires { start ≤ length hay.now }
         ensures found { (o : options.Options) (res : List Re) → IsMetaRegexOf o res self.old.regex → IsTextFor o hay.now
-            → result ≡ is_some (find_any o.utf8 res hay.now at) }
+            → result ≡ is_some (find_any o.utf8 res hay.now start) }
         ensures regex { self.new.regex ≡ self.old.regex }
     {
-        self.regex.is_match(&mut self.cache, hay, at)
+        self.regex.is_match_at(&mut self.cache, hay, start)
+    }
+
+    /// Returns the leftmost match of the haystack, as `Regex::find` does.
+    pub fn find(&mut self, hay: &[u8]) -> Option<Match>
+        ensures found { (o : options.Options) (res : List Re) → IsMetaRegexOf o res self.old.regex → IsTextFor o hay.now
+            → result ≡ option_map (numbered_match res hay.now) (find_any o.utf8 res hay.now 0) }
+        ensures within { IfSome result (λ m. m.end ≤ length hay.now) }
+        ensures regex { self.new.regex ≡ self.old.regex }
+    {
+        self.find_at(hay, 0)
+    }
+
+    /// Returns the leftmost match that begins at `start` or later, as `Regex::find_at` does.
+    pub fn find_at(&mut self, hay: &[u8], start: usize) -> Option<Match>
+        requires { start ≤ length hay.now }
+        ensures found { (o : options.Options) (res : List Re) → IsMetaRegexOf o res self.old.regex → IsTextFor o hay.now
+            → result ≡ option_map (numbered_match res hay.now) (find_any o.utf8 res hay.now start) }
+        ensures within { IfSome result (λ m. (start ≤ m.start) × (m.end ≤ length hay.now)) }
+        ensures regex { self.new.regex ≡ self.old.regex }
+    {
+        self.regex.find_at(&mut self.cache, hay, start)
     }
 
     /// Returns the match that `find` returns, and stores it with its groups in captures that `Regex::create_captures`
     /// made. If there is no match, the captures are empty.
-    pub fn captures(&mut self, hay: &[u8], at: usize, captures: &mut Captures) -> Option<Match>
-        requires room { HaveRoomFor captures.old self.old.regex.programs }
-        requires within { at ≤ length hay.now }
+    pub fn captures(&mut self, hay: &[u8], captures: &mut Captures) -> Option<Match>
+        requires { HaveRoomFor captures.old self.old.regex.programs }
         ensures found { (o : options.Options) (res : List Re) → IsMetaRegexOf o res self.old.regex → IsTextFor o hay.now
-            → result ≡ option_map (numbered_match res hay.now) (find_any o.utf8 res hay.now at) }
+            → result ≡ option_map (numbered_match res hay.now) (find_any o.utf8 res hay.now 0) }
         ensures groups { (o : options.Options) (res : List Re) → IsMetaRegexOf o res self.old.regex → IsTextFor o hay.now
-            → HoldFound (find_any o.utf8 res hay.now at) captures.new }
+            → HoldFound (find_any o.utf8 res hay.now 0) captures.new }
         ensures stored { HoldMatch result captures.new }
-        ensures within { IfSome result (λ m. (at ≤ m.start) × (m.end ≤ length hay.now)) }
+        ensures within { IfSome result (λ m. m.end ≤ length hay.now) }
         ensures regex { self.new.regex ≡ self.old.regex }
         ensures room { HaveRoomFor captures.new self.new.regex.programs }
     {
-        self.regex.captures(&mut self.cache, hay, at, captures)
+        self.captures_at(hay, 0, captures)
+    }
+
+    /// Returns the match that `find_at` returns, and stores it with its groups in captures that
+    /// `Regex::create_captures` made. If there is no match, the captures are empty.
+    pub fn captures_at(
+        &mut self,
+        hay: &[u8],
+        start: usize,
+        captures: &mut Captures,
+    ) -> Option<Match>
+        requires room { HaveRoomFor captures.old self.old.regex.programs }
+        requires within { start ≤ length hay.now }
+        ensures found { (o : options.Options) (res : List Re) → IsMetaRegexOf o res self.old.regex → IsTextFor o hay.now
+            → result ≡ option_map (numbered_match res hay.now) (find_any o.utf8 res hay.now start) }
+        ensures groups { (o : options.Options) (res : List Re) → IsMetaRegexOf o res self.old.regex → IsTextFor o hay.now
+            → HoldFound (find_any o.utf8 res hay.now start) captures.new }
+        ensures stored { HoldMatch result captures.new }
+        ensures within { IfSome result (λ m. (start ≤ m.start) × (m.end ≤ length hay.now)) }
+        ensures regex { self.new.regex ≡ self.old.regex }
+        ensures room { HaveRoomFor captures.new self.new.regex.programs }
+    {
+        self.regex
+            .captures_at(&mut self.cache, hay, start, captures)
     }
 }

@@ -4,6 +4,7 @@ ghost use Rattle.meta.specs.Caches.{HaveRoomFor, IsMetaCacheOf};
 use super::*;
 use patterns::Options;
 use regex_automata::hybrid::SearchError;
+use regex_automata::util::search::Match;
 use std::alloc::Global;
 use std::fmt::Write;
 use std::test::Fail;
@@ -48,7 +49,7 @@ fn shown(alloc: Global, texts: &[&str], hay: &[u8], start: usize) -> Result<Stri
     if start > hay.len() {
         return Ok(text);
     }
-    if let Some(found) = regex.captures(&mut cache, hay, start, &mut captures) {
+    if let Some(found) = regex.captures_at(&mut cache, hay, start, &mut captures) {
         write!(text, "{}:", found.pattern().as_usize())?;
         for group in 0..regex.group_len(found.pattern()) {
             match captures.get(group) {
@@ -107,6 +108,31 @@ fn words_have_boundaries_in_every_text(rt: HostRuntime) -> Result<(), Fail> {
         let found = spans(rt.alloc(), pattern, hay.as_bytes())?;
         assert_eq!(rt; found.as_str(), expected, "{pattern}");
     }
+    Ok(())
+}
+
+/// Where a match starts.
+fn start_of(found: Option<Match>) -> Option<usize> {
+    found.map(|found| found.start())
+}
+
+#[test]
+fn searches_begin_at_the_start_or_later(rt: HostRuntime) -> Result<(), Fail> {
+    let alloc = rt.alloc();
+    let regex = Regex::new(alloc, r"\b(s)?o\b", &Options::default())?;
+    let mut captures = regex.create_captures(alloc)?;
+    let mut searcher = Searcher::new(alloc, regex)?;
+    let (hay, start) = ("so дo o".as_bytes(), 1);
+    assert!(rt; start <= hay.len());
+    assert_eq!(rt; start_of(searcher.captures(hay, &mut captures)), Some(0));
+    assert_eq!(rt;
+        start_of(searcher.captures_at(hay, start, &mut captures)),
+        Some(7)
+    );
+    assert!(rt; captures.get(1).is_none());
+    assert_eq!(rt; start_of(searcher.find(hay)), Some(0));
+    assert_eq!(rt; start_of(searcher.find_at(hay, start)), Some(7));
+    assert!(rt; searcher.is_match(hay) && searcher.is_match_at(hay, start));
     Ok(())
 }
 

@@ -340,9 +340,21 @@ impl Pattern {
         self.regex.is_match(cache, &input)
     }
 
+    /// Returns the leftmost match of the haystack; of several that begin at one offset, the one that the pattern prefers.
+    pub fn find(&self, cache: &mut Cache, hay: &[u8]) -> Result<Option<Match>, SearchError>
+        requires { AreCachesOf cache.old self.now.regex }
+        ensures of { AreCachesOf cache.new self.now.regex }
+        ensures searched { IsSpanSearch self.now hay.now 0 cache.old cache.new result }
+        ensures found { IfOk result (λ found. (o : options.Options) (res : List Re)
+            → IsRegexOf o res self.now.regex → IsFor o hay.now
+            → found ≡ option_map (numbered_match res hay.now) (find_any o.utf8 res hay.now 0)) }
+    {
+        self.find_at(cache, hay, 0)
+    }
+
     /// Returns the leftmost match that begins at `start` or later; of those that begin there, the one that the pattern
     /// prefers.
-    pub fn find(
+    pub fn find_at(
         &self,
         cache: &mut Cache,
         hay: &[u8],
@@ -366,6 +378,23 @@ impl Pattern {
     /// Returns the end and the pattern of the match that `find` returns. It searches with the forward DFA alone, so it
     /// costs less than `find`, and returns the errors of that search. Rust's regex crate may return an earlier end.
     pub fn shortest_match(
+        &self,
+        cache: &mut Cache,
+        hay: &[u8],
+    ) -> Result<Option<HalfMatch>, SearchError>
+        requires { AreCachesOf cache.old self.now.regex }
+        ensures of { AreCachesOf cache.new self.now.regex }
+        ensures searched { IsEndSearch self.now hay.now 0 cache.old cache.new result }
+        ensures found { IfOk result (λ found. (o : options.Options) (res : List Re)
+            → IsRegexOf o res self.now.regex → IsFor o hay.now
+            → found ≡ option_map (end_of res hay.now) (find_any o.utf8 res hay.now 0)) }
+        ensures reverse { cache.new.reverse ≡ cache.old.reverse }
+    {
+        self.shortest_match_at(cache, hay, 0)
+    }
+
+    /// Returns the end and the pattern of the match that `find_at` returns, as `shortest_match` does.
+    pub fn shortest_match_at(
         &self,
         cache: &mut Cache,
         hay: &[u8],

@@ -151,7 +151,7 @@ impl Finder {
         ensures same { (text : List ℕ) → IsFinderOf text self.old → IsFinderOf text self.new }
     {
         spans_follow(&self.pattern.regex);
-        match self.pattern.find(&mut self.cache, line, 0) {
+        match self.pattern.find(&mut self.cache, line) {
             Ok(Some(found)) => Ok(Found {
                 span: Some((found.start(), found.end())),
                 simulated: false,

@@ -19,6 +19,6 @@ returns-then-end-hay-clause-found c = λ res all.
 
 pub returns-clause-found : goal.returns-clause-found
 returns-clause-found c = λ res all.
-    next_again c.args.self.now.utf8 res c.args.hay.now c.args.end c.in-Some.found c.find-2.result
+    next_again c.args.self.now.utf8 res c.args.hay.now c.args.end c.in-Some.found c.find_at-2.result
     (c.in-Some.ensures.found res all) (omega (arith, c.if-end.false, c.end.ensures.end))
-    (c.find-2.ensures.found res all)
+    (c.find_at-2.ensures.found res all)

@@ -8,8 +8,8 @@ use Rattle.meta.specs.Simulations.{IsSimulatedSpan}
 use Rattle.meta.specs.declared.program.Program.{Program}
 use Rattle.meta.proofs.Leftmost.{IsLeftmostOf, are_bytes, end_in, found_lies, leftmost_is, searched_next}
 use Rattle.meta.proofs.Rooms.{room_at, rooms_set}
-use Rattle.meta.proofs.program.Programs.find.Goals.{in-Some, in_default}
-use Rattle.meta.proofs.program.Programs.find.Goals as goal
+use Rattle.meta.proofs.program.Programs.find_at.Goals.{in-Some, in_default}
+use Rattle.meta.proofs.program.Programs.find_at.Goals as goal
 
 pub find-requires-clause-of : goal.find-requires-clause-of
 find-requires-clause-of c =

@@ -3,7 +3,7 @@ use Rattle.std.specs.Result.{result_err}
 use Rattle.regex_automata.specs.Promises.{IsSpanOf, IsSpanRun}
 use Rattle.patterns.proofs.Skips.{are_bytes, begun, begun_nowhere}
 use Rattle.patterns.proofs.Skips.{found_from, found_nothing, searched_from, searched_nothing}
-use Rattle.patterns.proofs.pattern.Pattern.find.Goals as goal
+use Rattle.patterns.proofs.pattern.Pattern.find_at.Goals as goal
 
 pub returns-in_default-clause-found : goal.returns-in_default-clause-found
 returns-in_default-clause-found c =

@@ -5,7 +5,7 @@ use Rattle.regex_automata.specs.Promises.{CacheView, Forward, IsHalf, IsSearchRu
 use Rattle.patterns.specs.Searches.{rest_from}
 use Rattle.patterns.proofs.Skips.{are_bytes, begun, begun_nowhere}
 use Rattle.patterns.proofs.Skips.{end_is_from, end_nothing, searched_from, searched_nothing}
-use Rattle.patterns.proofs.pattern.Pattern.shortest_match.Goals as goal
+use Rattle.patterns.proofs.pattern.Pattern.shortest_match_at.Goals as goal
 
 pub returns-in_default-clause-found : goal.returns-in_default-clause-found
 returns-in_default-clause-found c =

@@ -1,7 +1,7 @@
 use Rattle.std.proofs.Common.{◌≡◌, ◌≤◌, IfSome, length, take}
 use Rattle.meta.specs.Caches.{AreRoomsOf}
 use Rattle.meta.proofs.Leftmost.{IsLeftmostOf, end_in}
-use Rattle.meta.proofs.program.Programs.find.Given as goal
+use Rattle.meta.proofs.program.Programs.find_at.Given as goal
 
 abbrev pub invariant-programs : goal.invariant-programs
 invariant-programs l =

@@ -1,6 +1,6 @@
 use Rattle.meta.specs.Regexes.{AfterError, ByDfas}
 use Rattle.meta.proofs.Answering.{is_for, may_of}
-use Rattle.meta.proofs.regexes.Regex.find.Goals as goal
+use Rattle.meta.proofs.regexes.Regex.find_at.Goals as goal
 
 pub returns-in-Ok-clause-found : goal.returns-in-Ok-clause-found
 returns-in-Ok-clause-found c = λ o res is text.
