@@ -13,7 +13,8 @@ use Rattle.std.proofs.lemmas.List.{get_or-map, get_or_default, length-map}
 use lib.Count.{count_trailing_zeros}
 use Rattle.regex_literal.specs.Find.{AnyOccursAt, OccursAt, needle_at}
 use Rattle.prefilters.specs.Needles.{NoneOccurs}
-use Rattle.prefilters.specs.Pairs.{AnyFitsAt, CoversNeedle, CoversNeedles, FitsAt, FitsNeedle, HasAllOf, HasFoldOf}
+use Rattle.prefilters.specs.Pairs.{AllBeginWithByte, AnyFitsAt, CoversNeedle, CoversNeedles, FitsAt, FitsNeedle}
+use Rattle.prefilters.specs.Pairs.{HasAllOf, HasFoldOf}
 use Rattle.prefilters.specs.Pairs.{HasFolds, IsFoldedNeedle, NoFoldOccurs, OccursFolded}
 use Rattle.prefilters.specs.declared.pairs.BytePair.{BytePair}
 use Rattle.prefilters.proofs.Lanes.{trailing_clear, trailing_few}
@@ -70,19 +71,16 @@ none_join hay needles s at p first second = λ k low high. ⊎_elim
 
 -- what a mask of 64 offsets says
 module _
-    (fold : ℕ) (pairs : List BytePair) (needles folded : List (List ℕ)) (hay : List ℕ) (at mask : ℕ)
-    (has : HasFolds fold needles folded) (covers : CoversNeedles fold pairs folded)
-    (set : (k : ℕ) → k < 64 → AnyFitsAt fold pairs hay (at + k) → bit_at mask k ≡ 1)
+    (needles : List (List ℕ)) (hay : List ℕ) (at mask : ℕ)
+    (set : (k : ℕ) → k < 64 → AnyOccursAt hay needles (at + k) → bit_at mask k ≡ 1)
   where
     pub none_clear :
         (n : ℕ) → n ≤ 64 → ((k : ℕ) → k < n → bit_at mask k ≡ 0) → NoneOccurs hay needles at (at + n)
     none_clear n few clear = λ k low high found.
         let here : at + (k - at) ≡ k = omega (arith, low) in
         let lane : k - at < n = omega (arith, low, high) in
-        let f = has found.0 found.1 in
-        let there = occurs_folded fold hay (needle_at needles found.0) (needle_at folded f.0) k f.2 found.2 in
-        let one : bit_at mask (k - at) ≡ 1 = set (k - at) (omega (arith, lane, few))
-        (subst (λ j. AnyFitsAt fold pairs hay j) (sym here) (covers f.0 f.1 hay k there)) in
+        let one : bit_at mask (k - at) ≡ 1 =
+        set (k - at) (omega (arith, lane, few)) (subst (AnyOccursAt hay needles) (sym here) found) in
         let none : bit_at mask (k - at) ≡ 0 = clear (k - at) lane in
         absurd (omega (arith, one, none))
 
@@ -94,6 +92,27 @@ module _
     none_trailing some small =
         none_clear (count_trailing_zeros 64 mask) (let f = trailing_few mask some small in omega (arith, f))
         (trailing_clear mask some small)
+
+-- where a needle occurs, one of the pairs fits
+pub some_fits :
+    (fold : ℕ) (pairs : List BytePair) (needles folded : List (List ℕ)) (hay : List ℕ) (k : ℕ)
+    → HasFolds fold needles folded → CoversNeedles fold pairs folded → AnyOccursAt hay needles k
+    → AnyFitsAt fold pairs hay k
+some_fits fold pairs needles folded hay k has covers found =
+    let f = has found.0 found.1 in
+    covers f.0 f.1 hay k
+    (occurs_folded fold hay (needle_at needles found.0) (needle_at folded f.0) k f.2 found.2)
+
+-- and the byte with which all needles begin is there
+pub begins_there :
+    (fold byte : ℕ) (needles folded : List (List ℕ)) (hay : List ℕ) (k : ℕ) → HasFolds fold needles folded
+    → AllBeginWithByte byte folded → AnyOccursAt hay needles k → bit_or (slice_index hay k) fold ≡ byte
+begins_there fold byte needles folded hay k has all found =
+    let f = has found.0 found.1 in
+    let first = all f.0 f.1 in
+    let there = occurs_folded fold hay (needle_at needles found.0) (needle_at folded f.0) k f.2 found.2 in
+    let same : k + 0 ≡ k = omega arith in
+    ap (λ o. bit_or (slice_index hay o) fold) (sym same) ∙ there.reads 0 first.0 ∙ first.1
 
 -- a bit that is set in both masks is set in their conjunction
 pub both_set : (a b k : ℕ) → bit_at a k ≡ 1 → bit_at b k ≡ 1 → bit_at (bit_and a b) k ≡ 1

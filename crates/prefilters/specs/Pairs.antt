@@ -43,6 +43,14 @@ abbrev pub NoFoldOccurs : (fold : ℕ) → List ℕ → (folded : List (List ℕ
 NoFoldOccurs fold hay folded k =
     (n : ℕ) → n < length folded → OccursFolded fold hay (needle_at folded n) k → ⊥
 
+-- the needle begins with the byte
+abbrev pub BeginsWithByte : (byte : ℕ) → (needle : List ℕ) → Type 0
+BeginsWithByte byte needle = (0 < length needle) × (slice_index needle 0 ≡ byte)
+
+-- each of the needles begins with the byte
+abbrev pub AllBeginWithByte : (byte : ℕ) → (needles : List (List ℕ)) → Type 0
+AllBeginWithByte byte needles = (n : ℕ) → n < length needles → BeginsWithByte byte (needle_at needles n)
+
 -- the pair fits wherever the folded needle occurs
 abbrev pub FitsNeedle : (fold : ℕ) → BytePair → (needle : List ℕ) → Type 0
 FitsNeedle fold pair needle = (hay : List ℕ) (k : ℕ) → OccursFolded fold hay needle k → FitsAt fold pair hay k

@@ -2,14 +2,15 @@
 //!
 //! Of each needle two bytes are chosen, rare ones if it has such. A search tests 64 offsets of the haystack at once: if
 //! both bytes are at their offsets from there, the needles are compared.
-ghost use Rattle.std.specs.Prelude.{◌≡◌, ◌+◌, ◌<◌, ◌≤◌, ℕ, List, IfOk, IfSome, IsFalse, IsTrue, OnOk, length, map};
+ghost use Rattle.std.specs.Prelude.{◌≡◌, ◌+◌, ◌^◌, ◌<◌, ◌≤◌, ℕ, List, IfOk, IfSome, IsFalse, IsTrue, OnOk, Some, length, map};
 ghost use Rattle.std.specs.Prelude.{bit_or, slice_index};
 ghost use Rattle.std.specs.Int.{bit_at};
 ghost use Rattle.std.specs.List.{Contains};
 ghost use Rattle.regex_extract.specs.Needles.{needles_of};
 ghost use Rattle.regex_literal.specs.Find.{AllAtLeast, AnyOccursAt};
 ghost use Rattle.prefilters.specs.Needles.{StopsBeforeNeedle, NoneOccurs};
-ghost use Rattle.prefilters.specs.Pairs.{AnyFitsAt, CoversNeedles, FitsAt, FitsNeedle, HasAllOf, HasFoldOf, HasFolds};
+ghost use Rattle.prefilters.specs.Pairs.{AllBeginWithByte, AnyFitsAt, BeginsWithByte};
+ghost use Rattle.prefilters.specs.Pairs.{CoversNeedles, FitsAt, FitsNeedle, HasAllOf, HasFoldOf, HasFolds};
 ghost use Rattle.prefilters.specs.Pairs.{IsFoldedNeedle, KeepsFolds, NoFoldOccurs, OccursFolded, ReachesAtMost};
 
 use std::alloc::{AllocError, Global};
@@ -30,6 +31,9 @@ const NEAR: usize = 256;
 
 /// If there are more needles than this, bytes are compared with the bit `CASE` set, if fewer are then different.
 const MANY: usize = 4;
+
+/// With more pairs than this, a byte that all needles begin with is looked for first.
+const SEVERAL: usize = 3;
 
 /// With more pairs than this, a search takes longer than a lazy DFA does.
 const MOST_PAIRS: usize = 8;
@@ -283,6 +287,30 @@ fn reach_of(pairs: &[BytePair]) -> u8
     reach
 }
 
+/// Whether a needle begins with a byte.
+fn begins_with(needle: &[u8], byte: u8) -> bool
+    ensures { IsTrue result → BeginsWithByte byte needle.now }
+{
+    !needle.is_empty() && needle[0] == byte
+}
+
+/// Returns the byte with which all folded needles begin, if there is one, and a test of it first may pay: if there are
+/// more than three pairs.
+fn common_of(pairs: &[BytePair], folded: &[Vec<u8>]) -> Option<u8>
+    ensures { IfSome result (λ byte. AllBeginWithByte byte (map (λ v. v.items) folded.now)) }
+{
+    if pairs.len() <= SEVERAL || folded.is_empty() || folded[0].is_empty() {
+        return None;
+    }
+    let byte = folded[0][0];
+    for needle in folded {
+        if !begins_with(needle, byte) {
+            return None;
+        }
+    }
+    Some(byte)
+}
+
 /// Whether no needle is empty.
 fn are_filled(needles: &[Vec<u8>]) -> bool
     ensures { IsTrue result → AllAtLeast (map (λ v. v.items) needles.now) 1 }
@@ -326,6 +354,7 @@ pub struct Pairs {
     pairs: Vec<BytePair>,
     reach: u8,
     fold: u8,
+    common: Option<u8>,
 }
 
 impl Model for Pairs {
@@ -335,7 +364,8 @@ impl Model for Pairs {
 
     ghost invariant = { λ p. HasFolds p.fold (needles_of p.needles) (needles_of p.folded)
         × CoversNeedles p.fold p.pairs.items (needles_of p.folded)
-        × ReachesAtMost p.pairs.items p.reach };
+        × ReachesAtMost p.pairs.items p.reach
+        × ((byte : ℕ) → p.common ≡ Some byte → AllBeginWithByte byte (needles_of p.folded)) };
 }
 
 impl Pairs {
@@ -357,13 +387,38 @@ impl Pairs {
             return Ok(None);
         }
         let reach = reach_of(&pairs);
+        let common = common_of(&pairs, &folded);
         Ok(Some(Pairs {
             needles,
             folded,
             pairs,
             reach,
             fold,
+            common,
         }))
+    }
+
+    /// Returns a bit for each of the 64 offsets from `at` on: 0 only if no needle occurs there; none near the end of the
+    /// haystack.
+    #[inline(always)]
+    fn fitting(&self, hay: &[u8], at: usize) -> Option<u64>
+        requires { at ≤ length hay.now }
+        ensures room { IfSome result (λ _. at + 64 ≤ length hay.now) }
+        ensures bits { IfSome result (λ mask. mask < 2 ^ 64) }
+        ensures set { IfSome result (λ mask. (k : ℕ) → k < 64 → AnyOccursAt hay.now self.now (at + k)
+            → bit_at mask k ≡ 1) }
+    {
+        if !has_room(self.reach, hay, at) {
+            return None;
+        }
+        let Some(byte) = self.common else {
+            return Some(candidates(&self.pairs, self.reach, self.fold, hay, at));
+        };
+        let mask = equal(hay, at, self.fold, byte);
+        if mask == 0 {
+            return Some(mask);
+        }
+        Some(mask & candidates(&self.pairs, self.reach, self.fold, hay, at))
     }
 
     /// Returns the first offset from `start` on at which a pair fits, or one before it that is after `end` or near the
@@ -377,8 +432,10 @@ impl Pairs {
         ensures none { NoneOccurs hay.now self.now start result }
     {
         let mut at = start;
-        while at <= end && has_room(self.reach, hay, at) {
-            let mask = candidates(&self.pairs, self.reach, self.fold, hay, at);
+        while at <= end {
+            let Some(mask) = self.fitting(hay, at) else {
+                return at;
+            };
             if mask != 0 {
                 return at + mask.trailing_zeros() as usize;
             }
