@@ -138,21 +138,25 @@ mod help;
 mod lines;
 mod paths;
 mod position;
+mod replace;
 mod search;
 mod sets;
 mod show;
 mod spans;
 mod stats;
+mod template;
 mod texts;
 mod view;
 
 use crate::args::{Args, Request};
-use crate::build::{bytewise, grep_of, patterns_nfa, test_patterns};
+use crate::build::{bytewise, grep_of, patterns_nfa, programs_of, test_patterns};
 use crate::files::{Filter, Search};
 use crate::globs::Globs;
 use crate::help::{print_help, print_version};
 use crate::show::Show;
+use crate::template::replacements_of;
 use anyhow::Result;
+use meta::Programs;
 use patterns::{Fault, PatternError};
 use regex_automata::nfa::thompson::NFA;
 use std::alloc::Global;
@@ -180,19 +184,31 @@ fn filter_of(alloc: Global, args: &Args) -> Result<Filter> {
     Ok(Filter { files, directories })
 }
 
-/// Searches the files for the patterns of an NFA, and returns the status.
-fn search_files(rt: &HostRuntime, args: &Args, nfa: NFA) -> Result<ExitCode>
+/// Returns what to print, where these programs find the groups of this number of patterns.
+fn show_of(alloc: Global, args: &Args, programs: &Programs, count: usize) -> Result<Show> {
+    let replacements = match &args.template {
+        Some(template) => replacements_of(alloc, programs, count, template.as_str())?,
+        None => Vec::new(alloc),
+    };
+    Ok(Show {
+        flags: args.flags,
+        name: String::new(alloc),
+        binary: false,
+        replacements,
+    })
+}
+
+/// Searches the files for the patterns of an NFA, which has these texts, and returns the status.
+fn search_files(rt: &HostRuntime, args: &Args, nfa: NFA, texts: &[&str]) -> Result<ExitCode>
     requires { HasNoLookCycle nfa }
 {
-    let show = Show {
-        flags: args.flags,
-        name: String::new(rt.alloc()),
-        binary: false,
-    };
-    let since = Instant::now(rt)?;
-    let filter = filter_of(rt.alloc(), args)?;
+    let alloc = rt.alloc();
     let case_insensitive = args.wording.case_insensitive;
-    let grep = grep_of(rt.alloc(), show, nfa, case_insensitive, args.capacity)?;
+    let since = Instant::now(rt)?;
+    let programs = programs_of(alloc, args.flags.how, texts, case_insensitive)?;
+    let show = show_of(alloc, args, &programs, texts.len())?;
+    let filter = filter_of(alloc, args)?;
+    let grep = grep_of(alloc, show, nfa, programs, case_insensitive, args.capacity)?;
     let mut search = Search::new(rt, grep, args.reading, filter);
     search.search_all(rt, args.files.as_slice())?;
     if args.stats {
@@ -224,7 +240,7 @@ fn search_bounded(rt: &HostRuntime, args: &Args, inner: &[String]) -> Result<Exi
     let bounded = args.wording.bounded_texts(rt.alloc(), inner)?;
     let texts = texts_of(rt.alloc(), bounded.as_slice())?;
     match patterns_nfa(rt.alloc(), texts.as_slice(), args.wording.case_insensitive) {
-        Ok(nfa) => search_files(rt, args, nfa),
+        Ok(nfa) => search_files(rt, args, nfa, texts.as_slice()),
         Err(error) => report(rt, texts.as_slice(), args.wording.case_insensitive, error),
     }
 }
@@ -249,7 +265,7 @@ fn search_inner(rt: &HostRuntime, args: &Args) -> Result<ExitCode> {
         .inner_texts(rt.alloc(), args.patterns.as_slice())?;
     let texts = texts_of(rt.alloc(), inner.as_slice())?;
     match patterns_nfa(rt.alloc(), texts.as_slice(), args.wording.case_insensitive) {
-        Ok(nfa) if args.wording.is_plain() => search_files(rt, args, nfa),
+        Ok(nfa) if args.wording.is_plain() => search_files(rt, args, nfa, texts.as_slice()),
         Ok(_) => search_bounded(rt, args, inner.as_slice()),
         Err(error) if error.fault == Fault::UnicodeWord => {
             search_words(rt, args, inner.as_slice(), texts.as_slice())
