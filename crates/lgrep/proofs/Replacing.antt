@@ -1,5 +1,5 @@
 -- Lines in which matches are replaced, one match after another.
-use Rattle.std.proofs.Common.{◌≡◌, ◌∙◌, ◌≤◌, ℕ, Bool, false, List, [], ◌∷◌, ◌++◌, Option, Some, None, refl, sym, ap, ap₂}
+use Rattle.std.proofs.Common.{◌≡◌, ◌∙◌, ◌≤◌, ℕ, Bool, false, true, List, [], ◌∷◌, ◌++◌, Option, Some, None, refl, sym, ap, ap₂}
 use Rattle.std.proofs.Common.{drop, length, subst}
 use Rattle.std.specs.Option.{unwrap_or}
 use Rattle.std.specs.Prelude.{Ok, flat_map, slice_range}
@@ -8,13 +8,10 @@ use Rattle.regex_hir.specs.Find as kit
 use Rattle.regex_hir.specs.Re.{Re}
 use Rattle.automata_base.specs.declared.util.search.Span.{Span}
 use Rattle.regex_automata.specs.Promises.{Match}
-use Rattle.regex_automata.specs.Spans.Outcomes.{MatchLiesIn}
 use Rattle.regex_automata.specs.declared.hybrid.regex.Regex.{Regex}
-use Rattle.regex_automata.specs.declared.hybrid.regex.caches.Cache.{Cache}
 use Rattle.meaning.specs.Patterns.{IsFirstLeft, left_any, numbered_match}
-use Rattle.patterns.specs.Iteration.{GivesMatch, IsNextMeant, rest_of}
+use Rattle.patterns.specs.Iteration.{IsNextMeant}
 use Rattle.patterns.specs.Patterns.{IsRegexOf}
-use Rattle.patterns.specs.declared.pattern.Pattern.{Pattern}
 use Rattle.meta.specs.Captures.{HoldGroups, span_in}
 use Rattle.meta.specs.Groups.{FindAllGroups, IsPreferredMatch}
 use Rattle.meta.specs.Laws.{IsOfPreferred, NextIsPreferred}
@@ -61,14 +58,6 @@ module _ (replacements : List Replacement) (res : List Re) (line : List ℕ) (fo
       ∙ ap (λ v. was ++ v)
       (pieces_same line (span_in captures) (span_of_group res line found)
       (spans_held of.0 of.1 of.2 (held of.0 of.1 of.2)) (pieces_for replacements found.pattern))
-
--- the match of an item lies in the remaining line
-pub item_within :
-    (p : Pattern) (old new : Cache) (hay : List ℕ) (m : Match) (last last' : Option ℕ) (ended ended' : Bool) →
-    GivesMatch p old new hay (Some (Ok m)) last last' ended ended' → ended ≡ false
-    → MatchLiesIn p.regex (rest_of hay last) m
-item_within p old new hay m last last' true ended' h on = absurd (cc)
-item_within p old new hay m last last' false ended' h on = h.within
 
 module _ (regex : Regex) (programs : List Program) (replacements : List Replacement) (line : List ℕ) where
   -- for each meaning of the patterns

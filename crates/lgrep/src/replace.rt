@@ -17,8 +17,9 @@ use crate::show::{Frame, push_after};
 use crate::stats::Usage;
 use crate::template::{Piece, Replacement};
 use anyhow::Result;
+use meta::laws::matches_are_preferred;
 use meta::{Captures, Programs, Simulation};
-use patterns::Pattern;
+use patterns::{Misses, Pattern};
 use regex_automata::hybrid::regex::Cache;
 use regex_automata::util::search::Match;
 use std::alloc::{AllocError, Global};
@@ -189,16 +190,22 @@ impl Replacer {
             → FindAllGroups self.old.groups.programs.list.items res
             → self.new.bytes.items ≡ replaced_line replacements.now res line.now) }
     {
+        matches_are_preferred();
         self.bytes.clear();
-        let mut copied = 0;
-        for found in self.pattern.find_iter(&mut self.caches, line) {
-            let found = found?;
-            self.bytes.extend_from_slice(&line[copied..found.start()])?;
+        let mut last = None;
+        let mut misses = Misses::none();
+        'matches: while let Some(found) = self
+            .pattern
+            .next_match(&mut self.caches, line, last, &mut misses)?
+        {
+            let before = &line[last.unwrap_or(0)..found.start()];
+            self.bytes.extend_from_slice(before)?;
             self.groups
                 .push_expansion(replacements, line, &found, &mut self.bytes)?;
-            copied = found.end();
+            last = Some(found.end());
         }
-        self.bytes.extend_from_slice(&line[copied..])?;
+        let rest = &line[last.unwrap_or(0)..];
+        self.bytes.extend_from_slice(rest)?;
         Ok(())
     }
 
@@ -242,12 +249,18 @@ impl Replacer {
             ≡ shown.old.items ++ replacements_shown (expansion replacements.now res line.now) prefix.now frame.now
             (left_any false res line.now None)) }
     {
-        for found in self.pattern.find_iter(&mut self.caches, line) {
-            let found = found?;
+        matches_are_preferred();
+        let mut last = None;
+        let mut misses = Misses::none();
+        'matches: while let Some(found) = self
+            .pattern
+            .next_match(&mut self.caches, line, last, &mut misses)?
+        {
             self.bytes.clear();
             self.groups
                 .push_expansion(replacements, line, &found, &mut self.bytes)?;
             push_after(alloc, prefix, frame, found.start(), &self.bytes, shown)?;
+            last = Some(found.end());
         }
         Ok(())
     }

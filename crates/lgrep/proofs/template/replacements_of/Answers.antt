@@ -14,8 +14,12 @@ loop-number-preserved c =
           rw c.in_ok-push.ensures.items
           (replacement_turn programs c.args.template.now c.loop-number.replacements.items
           (record { pieces = c.in_ok-pieces.pieces }) number i.count own i.replaced);
-      count = rw c.in_ok-push.ensures.items (omega (arith, i.count, length-append c.loop-number.replacements.items
-      (record { pieces = c.in_ok-pieces.pieces } ∷ [])));
+      count = rw c.in_ok-push.ensures.items (omega (
+        arith,
+        i.count,
+        length-append c.loop-number.replacements.items
+            (record { pieces = c.in_ok-pieces.pieces } ∷ []),
+      ));
       before =
           count_turn programs c.in-Some.pattern number c.loop-number.before same i.before
           c.saturating_sub-groups.result c.group_len.result c.saturating_add-before.result c.group_len.ensures
