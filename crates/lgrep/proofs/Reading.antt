@@ -1,8 +1,7 @@
 -- How a template is read.
-use Rattle.std.proofs.Common.{add-one, ◌-◌}
-use Rattle.std.proofs.Common.{◌≡◌, ◌≢◌, ◌∙◌, ◌+◌, ◌<◌, ◌≤◌, ◌==◌, ℕ, zero, suc, Bool, true, false, cond, List, [], ◌∷◌, ◌++◌}
-use Rattle.std.proofs.Common.{Option, Some, None, refl, sym, ap, arith, drop, drop-drop, get_or, length, length-drop, lt-ltb}
-use Rattle.std.proofs.Common.{⊎_elim, ltb-true, nat_eq, ne_eqb, take}
+use Rattle.std.proofs.Common.{◌≡◌, ◌≢◌, ◌∙◌, ◌+◌, ◌-◌, ◌<◌, ◌≤◌, ◌==◌, ℕ, zero, suc, Bool, true, false, cond, List, []}
+use Rattle.std.proofs.Common.{◌∷◌, ◌++◌, Option, Some, None, refl, sym, ap, add-one, arith, drop, drop-drop, get_or}
+use Rattle.std.proofs.Common.{⊎_elim, length, length-drop, lt-ltb, ltb-true, nat_eq, ne_eqb, take}
 use Rattle.std.proofs.lemmas.Option.{same_Some}
 use Rattle.std.specs.Prelude.{IsUtf8, nat_lt, position, slice_index}
 use Rattle.std.specs.List.{position_from, position_or_len, prefix_len}

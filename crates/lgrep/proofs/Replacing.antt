@@ -1,15 +1,15 @@
 -- Lines in which matches are replaced, one match after another.
-use Rattle.std.proofs.Common.{◌≡◌, ◌∙◌, ◌≤◌, ℕ, Bool, false, true, List, [], ◌∷◌, ◌++◌, Option, Some, None, refl, sym, ap, ap₂}
-use Rattle.std.proofs.Common.{drop, length, subst}
+use Rattle.std.proofs.Common.{◌≡◌, ◌∙◌, ℕ, Bool, false, List, [], ◌∷◌, ◌++◌, Option, Some, None, refl}
+use Rattle.std.proofs.Common.{ap, ap₂, drop, subst, sym}
 use Rattle.std.specs.Option.{unwrap_or}
-use Rattle.std.specs.Prelude.{Ok, flat_map, slice_range}
+use Rattle.std.specs.Prelude.{flat_map, slice_range}
 use Rattle.std.proofs.lemmas.List.{append_assoc, append-nil}
 use Rattle.regex_hir.specs.Find as kit
 use Rattle.regex_hir.specs.Re.{Re}
 use Rattle.automata_base.specs.declared.util.search.Span.{Span}
 use Rattle.regex_automata.specs.Promises.{Match}
 use Rattle.regex_automata.specs.declared.hybrid.regex.Regex.{Regex}
-use Rattle.meaning.specs.Patterns.{IsFirstLeft, left_any, numbered_match}
+use Rattle.meaning.specs.Patterns.{left_any, numbered_match}
 use Rattle.patterns.specs.Iteration.{IsNextMeant}
 use Rattle.patterns.specs.Patterns.{IsRegexOf}
 use Rattle.meta.specs.Captures.{HoldGroups, span_in}
@@ -18,7 +18,8 @@ use Rattle.meta.specs.Laws.{IsOfPreferred, NextIsPreferred}
 use Rattle.meta.specs.declared.captures.Captures.{Captures}
 use Rattle.meta.specs.declared.program.Program.{Program}
 use Rattle.lgrep.specs.Lines.{bytewise}
-use Rattle.lgrep.specs.Replaced.{expansion, piece_bytes, replaced_line, span_bytes, span_of_group, span_on, with_replaced}
+use Rattle.lgrep.specs.Replaced.{expansion, piece_bytes, replaced_line, span_bytes, span_of_group, span_on}
+use Rattle.lgrep.specs.Replaced.{with_replaced}
 use Rattle.lgrep.specs.Shown.{replacements_shown, shown_after}
 use Rattle.lgrep.specs.Templates.{pieces_for}
 use Rattle.lgrep.specs.declared.show.Frame.{Frame}
@@ -123,7 +124,8 @@ module _ (regex : Regex) (programs : List Program) (replacements : List Replacem
           let rest = replacements_shown e prefix frame (left_any false res line (Some m.end)) in
           ap (λ v. is ++ replacements_shown e prefix frame (left_any false res line v)) end
           ∙ ap (λ v. v ++ rest) shows
-          ∙ ap (λ v. (was ++ shown_after prefix frame m.start v) ++ rest) (adds [] bytes more case_insensitive res of groups)
+          ∙ ap (λ v. (was ++ shown_after prefix frame m.start v) ++ rest)
+          (adds [] bytes more case_insensitive res of groups)
           ∙ append_assoc was (shown_after prefix frame m.start (e m)) rest
           ∙ ap (λ ms. was ++ replacements_shown e prefix frame ms) (sym (first case_insensitive res of groups))
           ∙ so case_insensitive res of groups

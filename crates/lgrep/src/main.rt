@@ -39,6 +39,7 @@
 //!     -L, --files-without-match       only the names of files without such a line
 //!     -q, --quiet, --silent           nothing
 //!     -o, --only-matching             only the matches of the lines
+//!     --replace=TEXT                  TEXT in place of each match; with -o only that
 //!     --which                         before each line, which patterns match it
 //!     -n, --line-number               line numbers
 //!     -b, --byte-offset               the offset of each line, or with -o of each match
@@ -83,6 +84,19 @@
 //! which they are given, so that those of one `-f FILE` have the numbers of its lines: `2,17:the line`. `--which`
 //! excludes `-o` and `-v`.
 //!
+//! # Replacements
+//!
+//! With `--replace` each match is replaced by a text, in which `$1` and `${1}` stand for what group 1 matched, `$name`
+//! and `${name}` for what the group with that name matched, `$0` for the match and `$$` for `$`, as in Rust's regex crate
+//! and in ripgrep. A name without braces is as long as possible: `$1a` is a group with the name `1a`. A group that does
+//! not exist or took no part in the match is empty, and a `$` that begins no reference stands for itself. Groups are
+//! numbered from 1 over all patterns, in the order in which these are given; a name is looked up in the pattern that
+//! matched. Empty matches are replaced, too. Which lines are taken does not change, nor do their numbers, offsets, and
+//! the lines around them. `--replace` has no short form, and excludes `--which`.
+//!
+//! With `-o` only what replaces the matches is printed, each on a line of its own, even if it is empty: `-o --replace
+//! '$1'` prints group 1 of each match. With `-b`, the offset is that of the match.
+//!
 //! # Lines around
 //!
 //! A line that is not taken has `-` in place of the colons after its number and its offset, and so after its file name.
@@ -119,7 +133,9 @@
 //! the patterns' texts, or with `-v` exactly if none is, and with `-m` only the first of these lines; and that what is
 //! shown of the lines taken and of those around them, and their count, are what the flags say (`Grep::search`). The
 //! patterns' texts are those that are searched for: what `-F`, `-w`, `-x` and `-z` make of a pattern, and of its word
-//! boundaries, is tested. With `--which` the numbers are those of the patterns that match the line, each by itself.
+//! boundaries, is tested. With `--which` the numbers are those of the patterns that match the line, each by itself. With
+//! `--replace` each match is replaced by what the pieces of the text stand for, with the groups that the patterns' texts
+//! mean (`replaced_line`), and the pieces are those of the syntax of Rust's regex crate (`AreReplacements`).
 //! Blocks are cut after the end of a line, and no byte is lost (`Blocks::take_ended`). For reading the arguments,
 //! finding the files and writing, only safety is proved.
 #![tactic(auto)]

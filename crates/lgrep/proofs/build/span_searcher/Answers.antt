@@ -1,6 +1,5 @@
 use Rattle.std.proofs.Common.{subst, sym}
 use Rattle.regex_automata.specs.Regexes.Builds.{BuildsOne}
-use Rattle.automata_base.specs.declared.util.search.MatchKind.{MatchKind}
 use Rattle.patterns.specs.Patterns.{IsRegexOf, settings_with}
 use Rattle.patterns.specs.declared.pattern.Pattern.{Pattern}
 use Rattle.regex_automata.specs.Promises.{LeftmostFirst}

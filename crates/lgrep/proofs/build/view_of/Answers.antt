@@ -53,7 +53,8 @@ returns-in_ok-replacer-in-Replaced-clause-built c =
 
 pub returns-in_ok-replacer-in-Replacements-clause-meant : goal.returns-in_ok-replacer-in-Replacements-clause-meant
 returns-in_ok-replacer-in-Replacements-clause-meant c = λ res is groups.
-    subst (λ (h : How). IsViewFor c.args.case_insensitive h res (view.Replacements c.in_ok-replacer-in-Replacements.replacer))
+    subst (λ (h : How). IsViewFor c.args.case_insensitive h res
+    (view.Replacements c.in_ok-replacer-in-Replacements.replacer))
     (sym c.in-Replacements.is)
     (c.in_ok-replacer-in-Replacements.ensures.meant res
     (subst (λ (a : Automaton). IsJoinedNfa (bytewise c.args.case_insensitive) res a)

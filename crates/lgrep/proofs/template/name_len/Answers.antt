@@ -1,5 +1,4 @@
-use Rattle.std.proofs.Common.{◌∙◌, arith, get_or, length, sym}
-use Rattle.std.proofs.lemmas.Bool.Decides.{nat_tests}
+use Rattle.std.proofs.Common.{◌∙◌, arith, length, sym}
 use Rattle.std.proofs.lemmas.Grind.{common_steps}
 use Rattle.std.proofs.lemmas.List.Sums.{prefix_len_is}
 use Rattle.regex.specs.Templates.{is_name_byte}

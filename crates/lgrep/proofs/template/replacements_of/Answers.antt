@@ -1,4 +1,4 @@
-use Rattle.std.proofs.Common.{◌∙◌, ◌∷◌, [], arith, length, length-append, sym}
+use Rattle.std.proofs.Common.{◌∙◌, ◌∷◌, [], arith, length-append, sym}
 use Rattle.std.specs.Prelude.{nat_le}
 use Rattle.lgrep.proofs.Reading.{count_turn, own_pieces, replacement_turn, some_at}
 use Rattle.lgrep.proofs.template.replacements_of.Goals as goal

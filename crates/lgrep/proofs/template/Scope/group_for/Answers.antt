@@ -1,8 +1,5 @@
-use Rattle.std.proofs.Common.{ap}
-use Rattle.regex.proofs.TemplateLemmas.{index_is_position, number_parsed}
-use Rattle.regex.specs.Templates.{group_called}
+use Rattle.regex.proofs.TemplateLemmas.{number_parsed}
 use Rattle.meta.specs.Names.{group_names}
-use Rattle.lgrep.specs.Templates.{by_number}
 use Rattle.lgrep.proofs.Reading.{number_called, name_called}
 use Rattle.lgrep.proofs.template.Scope.group_for.Goals as goal
 

@@ -1,4 +1,4 @@
-use Rattle.std.proofs.Common.{◌+◌, ◌∷◌, [], arith, length, length-drop, refl}
+use Rattle.std.proofs.Common.{◌+◌, ◌∷◌, [], arith, length-drop, refl}
 use Rattle.std.proofs.lemmas.List.{append_assoc}
 use Rattle.meta.specs.Names.{group_names}
 use Rattle.lgrep.specs.Templates.{group_for, pieces_of}
