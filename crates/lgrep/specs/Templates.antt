@@ -21,7 +21,7 @@ abbrev pub by_number : (before : ℕ) → (number named : Option ℕ) → Option
 by_number before None named = named
 by_number before (Some number) named = own_group before number
 
--- the group of a pattern whose groups have these names that is called by a number in all patterns, or by a name
+-- the group to which a number in all patterns or a name refers, of a pattern whose groups have these names
 abbrev pub group_for : (names : List (Option (List ℕ))) → (before : ℕ) → (name : List ℕ) → Option ℕ
 group_for names before name = by_number before (number_in name) (group_called names name)
 
@@ -32,7 +32,7 @@ with_piece (Some piece) pieces = piece ∷ pieces
 
 module _ (group : List ℕ → Option ℕ) where
   -- the piece for a `$` before these bytes, and how many of them belong to it: `$$` is a `$`, and a name is the group
-  -- that it calls, if there is one; none if neither follows
+  -- to which it refers, if there is one; none if neither follows
   abbrev pub reference_at : List ℕ → Option (Option Piece × ℕ)
   reference_at rest =
       if slice_index rest 0 == 36 then Some (Some (Byte 36), 1)

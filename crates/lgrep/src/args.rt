@@ -434,7 +434,8 @@ impl Args {
         }
     }
 
-    /// Fails if there is no pattern, if the value of a flag is missing, or if `--which` is given with `-v` or `--replace`.
+    /// Fails if there is no pattern, if the value of a flag is missing, or if both `--which` and `-v` or `--replace` are
+    /// given.
     fn check(&self) -> Result<()> {
         if self.awaited.is_some() {
             bail!("the last flag has no value; see lgrep --help");

@@ -94,8 +94,8 @@
 //! matched. Empty matches are replaced, too. Which lines are taken does not change, nor do their numbers, offsets, and
 //! the lines around them. `--replace` has no short form, and excludes `--which`.
 //!
-//! With `-o` only what replaces the matches is printed, each on a line of its own, even if it is empty: `-o --replace
-//! '$1'` prints group 1 of each match. With `-b`, the offset is that of the match.
+//! With `-o` only what replaces the matches is printed, each on a line of its own, even if it is empty, so that with
+//! `-o --replace '$1'` group 1 of each match is printed. With `-b` the offset before it is that of the match.
 //!
 //! # Lines around
 //!

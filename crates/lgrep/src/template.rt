@@ -196,7 +196,8 @@ impl<'p> Scope<'p> {
 }
 
 /// Reads a template for each of the first `count` patterns, with their groups. The groups of all patterns are numbered
-/// in one sequence, in the order of the patterns; a name is one of a group of the same pattern.
+/// in one sequence, in the order of the patterns; a name refers to a group of the same pattern. It fails only if there
+/// is no memory, or if there are too many patterns for their numbers.
 pub fn replacements_of(
     alloc: Global,
     programs: &Programs,
