@@ -6,10 +6,11 @@
 The program is the one that `rt ci` or `rt run` left in the crate's out/, unless another is named. The texts are
 documents of this repository, and short ones: with an empty line and no line feed at the end, binary ones, and a folder
 with files, folders, links and a pipe. `grep` has the flag `-E`, unless a call names another kind of patterns. The
-output of `--which` is compared with that of one `grep -nE` for each pattern, and the counts of `--stats` with those of
-`grep -c`; that of `--replace` with what ripgrep printed. A line that is too long for `grep` is searched in little memory. If `grep` is not installed, nothing is
-compared. The flags of `--help`, of the manual in src/main.rt and of the completions in tools/dist have to be the same,
-and the completion of bash is run. The last line counts these tests, added to those that the given line counts.
+output of `--which` is compared with that of one `grep -nE` for each pattern, the counts of `--stats` with those of
+`grep -c`, and the output of `--replace` with what ripgrep printed. A line that is too long for `grep` is searched in
+little memory. If `grep` is not installed, nothing is compared. The flags of `--help`, of the manual in src/main.rt and
+of the completions in tools/dist have to be the same, and the completion of bash is run. The last line counts these
+tests, added to those that the given line counts.
 """
 import argparse
 import os

@@ -87,11 +87,11 @@
 //! # Replacements
 //!
 //! With `--replace` each match is replaced by a text, in which `$1` and `${1}` stand for what group 1 matched, `$name`
-//! and `${name}` for what the group with that name matched, `$0` for the match and `$$` for `$`, as in Rust's regex crate
-//! and in ripgrep. A name without braces is as long as possible: `$1a` is a group with the name `1a`. A group that does
-//! not exist or took no part in the match is empty, and a `$` that begins no reference stands for itself. Groups are
-//! numbered from 1 over all patterns, in the order in which these are given; a name is looked up in the pattern that
-//! matched. Empty matches are replaced, too. Which lines are taken does not change, nor do their numbers, offsets, and
+//! and `${name}` for what the group with that name matched, `$0` for the match and `$$` for `$`, as in Rust's regex
+//! crate and in ripgrep. A name without braces is as long as possible: `$1a` is a group with the name `1a`. A group that
+//! does not exist or took no part in the match is empty, and a `$` that begins no reference stands for itself. Groups
+//! are numbered from 1 over all patterns, in the order in which these are given; a name is looked up in the pattern that
+//! matched. Empty matches are replaced, too. Which lines are taken does not change, nor do their numbers, offsets and
 //! the lines around them. `--replace` has no short form, and excludes `--which`.
 //!
 //! With `-o` only what replaces the matches is printed, each on a line of its own, even if it is empty, so that with
@@ -133,14 +133,17 @@
 //! the patterns' texts, or with `-v` exactly if none is, and with `-m` only the first of these lines; and that what is
 //! shown of the lines taken and of those around them, and their count, are what the flags say (`Grep::search`). The
 //! patterns' texts are those that are searched for: what `-F`, `-w`, `-x` and `-z` make of a pattern, and of its word
-//! boundaries, is tested. With `--which` the numbers are those of the patterns that match the line, each by itself. With
-//! `--replace` each match is replaced by what the pieces of the text stand for, with the groups that the patterns' texts
-//! mean (`replaced_line`), and the pieces are those of the syntax of Rust's regex crate (`AreReplacements`).
+//! boundaries, is tested. With `--which` the numbers are those of the patterns that match the line, each by itself.
+//! With `--replace` each match is replaced by what the pieces of the text stand for, with the groups that the patterns'
+//! texts mean (`replaced_line`), and the pieces are those of the text by the kit's specification of the syntax of Rust's
+//! regex crate (`replacements_of`).
 //! Blocks are cut after the end of a line, and no byte is lost (`Blocks::take_ended`). For reading the arguments,
 //! finding the files and writing, only safety is proved.
 #![tactic(auto)]
 
+ghost use Rattle.std.specs.Prelude.{◌≡◌, IfOk, IfSome, string_bytes};
 ghost use Rattle.patterns.specs.Patterns.{HasNoLookCycle};
+ghost use Rattle.lgrep.specs.Templates.{AreReplacements};
 
 mod args;
 mod around;
@@ -201,7 +204,11 @@ fn filter_of(alloc: Global, args: &Args) -> Result<Filter> {
 }
 
 /// Returns what to print, where these programs find the groups of this number of patterns.
-fn show_of(alloc: Global, args: &Args, programs: &Programs, count: usize) -> Result<Show> {
+fn show_of(alloc: Global, args: &Args, programs: &Programs, count: usize) -> Result<Show>
+    ensures flags { IfOk result (λ show. show.flags ≡ args.now.flags) }
+    ensures replacements { IfSome args.now.template (λ template. IfOk result (λ show.
+        AreReplacements programs.now (string_bytes template) count show.replacements.items)) }
+{
     let replacements = match &args.template {
         Some(template) => replacements_of(alloc, programs, count, template.as_str())?,
         None => Vec::new(alloc),

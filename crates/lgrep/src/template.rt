@@ -114,8 +114,8 @@ fn bare_name(rest: &[u8]) -> Option<(&str, usize)>
     }
 }
 
-/// Returns the name of the group to which a `$` before these bytes refers, and how many of them belong to the reference.
-/// If the `$` stands for itself, there is none.
+/// Returns the name of the group to which a `$` before these bytes refers, and how many of them belong to the
+/// reference. If the `$` stands for itself, there is none.
 fn name_at(rest: &[u8]) -> Option<(&str, usize)>
     ensures value { option_map (λ found. (found.0.now, found.1)) result ≡ name_at rest.now }
     ensures within { IfSome result (λ found. found.1 ≤ length rest.now) }
