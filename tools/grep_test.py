@@ -6,10 +6,11 @@
 The program is the one that `rt ci` or `rt run` left in the crate's out/, unless another is named. The texts are
 documents of this repository, and short ones: with an empty line and no line feed at the end, binary ones, and a folder
 with files, folders, links and a pipe. `grep` has the flag `-E`, unless a call names another kind of patterns. The
-output of `--which` is compared with that of one `grep -nE` for each pattern, and the counts of `--stats` with those of
-`grep -c`. A line that is too long for `grep` is searched in little memory. If `grep` is not installed, nothing is
-compared. The flags of `--help`, of the manual in src/main.rt and of the completions in tools/dist have to be the same,
-and the completion of bash is run. The last line counts these tests, added to those that the given line counts.
+output of `--which` is compared with that of one `grep -nE` for each pattern, the counts of `--stats` with those of
+`grep -c`, and the output of `--replace` with what ripgrep printed. A line that is too long for `grep` is searched in
+little memory. If `grep` is not installed, nothing is compared. The flags of `--help`, of the manual in src/main.rt and
+of the completions in tools/dist have to be the same, and the completion of bash is run. The last line counts these
+tests, added to those that the given line counts.
 """
 import argparse
 import os
@@ -320,6 +321,25 @@ CALLS = [
     ["foo$", "crlf"],
     ["[[:alpha:]]+", "code/sub/b.py"],
 ]
+# The arguments of calls with `--replace`, and what they print, which is what ripgrep 13.0.0 prints.
+REPLACED = [
+    (["--replace=[$0]", "lazy|77", "short"], b"two [lazy]\nthe last line is [lazy] [77]\n"),
+    (["-n", "--replace", "${1}_$2$3", "(l)(a)?", "short"], b"2:two l_azy\n4:the l_ast l_ine is l_azy 77\n"),
+    (["-o", "--replace", "$2$1", "(l)(a)?", "short"], b"al\nal\nl\nal\n"),
+    (["--replace=$last, ${first}", "(?P<first>\\w+) (?P<last>\\w+)", "short"],
+     b"lazy, two\nlast, the is, line 77, lazy\n"),
+    (["--replace=$1a|${1}a|$$1|$|$-|${1", "(two)", "short"], b"|twoa|$1|$|$-|${1 lazy\n"),
+    (["-no", "--replace=$1.$2", "-e", "(two)", "-e", "(i)s", "short"], b"2:two.\n4:.i\n"),
+    (["--replace=<$0>", "z?", "letters", "-m1"], b"<>a<>\n"),
+    (["--replace=-", "y*", "short"], b"-o-n-e-\n-t-w-o- -l-a-z-\n-\n-t-h-e- -l-a-s-t- -l-i-n-e- -i-s- -l-a-z- -7-7-\n"),
+    (["-o", "--replace=", "two|lazy", "short"], b"\n\n\n"),
+    (["-vn", "--replace=$0$0", "a", "short"], b"1:one\n3:\n"),
+    (["-c", "--replace=$0", "lazy", "short"], b"2\n"),
+    (["-bC1", "--replace=x", "two", "short"], b"0-one\n4:x lazy\n13-\n"),
+    (["-x", "--replace=($1)", "(\\w+) lazy", "short"], b"(two)\n"),
+    (["-iw", "--replace=$1!", "(FOO)_?", "words"], b"foo!-bar\nfoo! (foo!)\nfoo!\nfoo!.bar\nFOO! 1\n"),
+    (["-F", "--replace=$0$0", "foo.b", "words"], b"foo.bfoo.bar\n"),
+]
 # The files below `tree` that have a match, in the order of names in which `lgrep` searches them.
 ORDER = b"tree/a/.hidden\ntree/a/0\ntree/a/z\ntree/b\ntree/b.txt\n"
 LONG = 100 << 20
@@ -470,7 +490,10 @@ def own(program, room):
     yield "--which of two", found[1], b"1,2:two lazy\n2:the last line is lazy 77\n"
     found = run([program, "-cf", "six", "--which", "short"], room)
     yield "--which -c", found[:2], run(["grep", "-cEf", "six", "short"], room)[:2]
-    for other in ("-o", "-v"):
+    for call, wanted in REPLACED:
+        yield " ".join(call), run([program, *call], room)[:2], (0, wanted)
+    yield "--replace -bo", run([program, "-bo", "--replace=$$", "two|77", "short"], room)[1], b"4:$\n36:$\n"
+    for other in ("-o", "-v", "--replace=x"):
         yield f"--which {other}", run([program, other, "--which", "lazy", "short"], room)[:2], (2, b"")
     status, printed, said = run([program, "-c", "--stats", "lazy", "README.md", "short"], room)
     sizes = sum(os.path.getsize(f"{room}/{name}") for name in ("README.md", "short"))

@@ -5,3 +5,5 @@ mod Printing
 mod Near
 mod Marks
 mod Counting
+mod Replacing
+mod Reading

@@ -9,16 +9,20 @@ use Rattle.automata_base.specs.Nfas.Nodes.{Automaton}
 use Rattle.regex_automata.specs.Promises.{LeftmostFirst, Machine, Match, match_kind_of}
 use Rattle.regex_automata.specs.declared.hybrid.regex.Regex.{Regex}
 use Rattle.meaning.specs.Patterns.{is_found, left_any}
+use Rattle.meta.specs.Groups.{FindAllGroups}
+use Rattle.meta.specs.declared.program.Programs.{Programs}
 use Rattle.patterns.specs.Iteration.{IsNextMeant}
 use Rattle.patterns.specs.Patterns.{IsFor, IsJoinedNfa, IsRegexOf}
 use Rattle.patterns.specs.Sets.{IsDfaOf}
 use Rattle.patterns.specs.declared.pattern.Pattern.{Pattern}
 use Rattle.patterns.specs.declared.set.RegexSet.{RegexSet}
 use Rattle.lgrep.specs.Lines.{IsSearcherFor, bytewise, count_after, found_line, one_more}
-use Rattle.lgrep.specs.Greps.{IsGrepFor, IsViewFor, KeepsView}
+use Rattle.lgrep.specs.Greps.{IsGrepFor, IsReplacerFor, IsViewFor, KeepsReplacer, KeepsView}
+use Rattle.lgrep.specs.Replaced.{expansion, replaced_line}
 use Rattle.lgrep.specs.Shown.{found_shown, line_shown, lines_shown, part_shown, parts_shown, shown_after}
-use Rattle.lgrep.specs.Shown.{which_shown}
+use Rattle.lgrep.specs.Shown.{replacements_shown, which_shown}
 use Rattle.lgrep.specs.declared.position.Position.{Position}
+use Rattle.lgrep.specs.declared.replace.Replacer.{Replacer}
 use Rattle.lgrep.specs.declared.search.Grep.{Grep}
 use Rattle.lgrep.specs.declared.lines.Line.{Line}
 use Rattle.lgrep.specs.declared.lines.LineSearcher.{LineSearcher}
@@ -28,6 +32,7 @@ use Rattle.lgrep.specs.declared.show.How.{How}
 use Rattle.lgrep.specs.declared.show.How.TheVariants as how
 use Rattle.lgrep.specs.declared.show.Show.{Show}
 use Rattle.lgrep.specs.declared.spans.SpanSearcher.{SpanSearcher}
+use Rattle.lgrep.specs.declared.template.Replacement.{Replacement}
 use Rattle.lgrep.specs.declared.view.View.{View}
 use Rattle.lgrep.specs.declared.view.View.TheVariants as view
 use Rattle.lgrep.proofs.Numbers.{counted_push}
@@ -109,48 +114,58 @@ pub count_next : (lines : List Line) (i : ℕ) → i < length lines → (n was i
 count_next [] i inside n was is so more = absurd (omega (arith, inside))
 count_next (line ∷ lines) i inside n was is so more = count_more (line ∷ lines) i line inside n was is so more
 
+-- a replacer that keeps its patterns
+replacer_kept : (case_insensitive : Bool) (res : List Re) (old new : Replacer) → KeepsReplacer old new →
+    IsReplacerFor case_insensitive res old → IsReplacerFor case_insensitive res new
+replacer_kept case_insensitive res old new same is = (
+  subst (λ (p : Pattern). IsRegexOf (bytewise case_insensitive) res p.regex) (sym same.0) is.0,
+  subst (λ (p : Programs). FindAllGroups p.list.items res) (sym same.1) is.1,
+)
+
+-- a replacer keeps its patterns over one search after another
+replacer_next : (a b c : Replacer) → KeepsReplacer a b → KeepsReplacer b c → KeepsReplacer a c
+replacer_next a b c first second = (second.0 ∙ first.0, second.1 ∙ first.1)
+
 -- a searcher that keeps its patterns
 pub view_kept : (case_insensitive : Bool) (asked : How) (res : List Re) (old new : View) → KeepsView old new →
     IsViewFor case_insensitive asked res old → IsViewFor case_insensitive asked res new
 view_kept case_insensitive how.Whole res view.Whole view.Whole same is = tt
-view_kept case_insensitive how.Whole res view.Whole (view.Matches new) same is = absurd same
-view_kept case_insensitive how.Whole res view.Whole (view.Which new) same is = absurd same
-view_kept case_insensitive how.Whole res (view.Matches old) new same is = absurd is
-view_kept case_insensitive how.Whole res (view.Which old) new same is = absurd is
-view_kept case_insensitive how.Matches res view.Whole new same is = absurd is
-view_kept case_insensitive how.Matches res (view.Matches old) view.Whole same is = absurd same
 view_kept case_insensitive how.Matches res (view.Matches old) (view.Matches new) same is =
     subst (λ (p : Pattern). IsRegexOf (bytewise case_insensitive) res p.regex) (sym same) is
-view_kept case_insensitive how.Matches res (view.Matches old) (view.Which new) same is = absurd same
-view_kept case_insensitive how.Matches res (view.Which old) new same is = absurd is
-view_kept case_insensitive how.Which res view.Whole new same is = absurd is
-view_kept case_insensitive how.Which res (view.Matches old) new same is = absurd is
-view_kept case_insensitive how.Which res (view.Which old) view.Whole same is = absurd same
-view_kept case_insensitive how.Which res (view.Which old) (view.Matches new) same is = absurd same
 view_kept case_insensitive how.Which res (view.Which old) (view.Which new) same is =
     subst (λ (s : RegexSet). IsDfaOf (bytewise case_insensitive) res s.dfa) (sym same) is
+view_kept case_insensitive how.Replaced res (view.Replaced old) (view.Replaced new) same is =
+    replacer_kept case_insensitive res old new same is
+view_kept case_insensitive how.Replacements res (view.Replacements old) (view.Replacements new) same is =
+    replacer_kept case_insensitive res old new same is
+view_kept case_insensitive how.Whole res view.Whole new same is = absurd same
+view_kept case_insensitive how.Matches res (view.Matches old) new same is = absurd same
+view_kept case_insensitive how.Which res (view.Which old) new same is = absurd same
+view_kept case_insensitive how.Replaced res (view.Replaced old) new same is = absurd same
+view_kept case_insensitive how.Replacements res (view.Replacements old) new same is = absurd same
+view_kept case_insensitive asked res old new same is = absurd is
 
 -- a searcher that has not changed
 pub view_same : (old new : View) → new ≡ old → KeepsView old new
 view_same view.Whole new same = subst (λ v. KeepsView view.Whole v) (sym same) tt
 view_same (view.Matches s) new same = subst (λ v. KeepsView (view.Matches s) v) (sym same) refl
 view_same (view.Which s) new same = subst (λ v. KeepsView (view.Which s) v) (sym same) refl
+view_same (view.Replaced r) new same = subst (λ v. KeepsView (view.Replaced r) v) (sym same) (refl, refl)
+view_same (view.Replacements r) new same = subst (λ v. KeepsView (view.Replacements r) v) (sym same) (refl, refl)
 
 -- a searcher keeps its patterns over one search after another
 pub view_next : (a b c : View) → KeepsView a b → KeepsView b c → KeepsView a c
 view_next view.Whole view.Whole c first second = second
-view_next view.Whole (view.Matches b) c first second = absurd first
-view_next view.Whole (view.Which b) c first second = absurd first
-view_next (view.Matches a) view.Whole c first second = absurd first
-view_next (view.Matches a) (view.Matches b) view.Whole first second = absurd second
 view_next (view.Matches a) (view.Matches b) (view.Matches c) first second = second ∙ first
-view_next (view.Matches a) (view.Matches b) (view.Which c) first second = absurd second
-view_next (view.Matches a) (view.Which b) c first second = absurd first
-view_next (view.Which a) view.Whole c first second = absurd first
-view_next (view.Which a) (view.Matches b) c first second = absurd first
-view_next (view.Which a) (view.Which b) view.Whole first second = absurd second
-view_next (view.Which a) (view.Which b) (view.Matches c) first second = absurd second
 view_next (view.Which a) (view.Which b) (view.Which c) first second = second ∙ first
+view_next (view.Replaced a) (view.Replaced b) (view.Replaced c) first second = replacer_next a b c first second
+view_next (view.Replacements a) (view.Replacements b) (view.Replacements c) first second =
+    replacer_next a b c first second
+view_next (view.Matches a) (view.Matches b) c first second = absurd second
+view_next (view.Which a) (view.Which b) c first second = absurd second
+view_next (view.Replaced a) (view.Replaced b) c first second = absurd second
+view_next (view.Replacements a) (view.Replacements b) c first second = absurd second
+view_next a b c first second = absurd first
 
 -- a grep whose parts are the same
 pub grep_kept :
@@ -182,29 +197,48 @@ pub on_ok : {U E A B : Type 0} (r : Result U E) → (A → B) → OnOk r A → O
 on_ok (Ok u) f h = f h
 on_ok (Err e) f h = tt
 
-module _ (case_insensitive : Bool) (res : List Re) (prefix : List ℕ) (frame : Frame) (line was is : List ℕ) where
+module _ (case_insensitive : Bool) (replacements : List Replacement) (res : List Re) (prefix : List ℕ) (frame : Frame)
+    (line was is : List ℕ) where
+  -- what is shown of a line, added to what was shown before
+  abbrev Shows : How → Type 0
+  Shows asked = is ≡ was ++ line_shown asked replacements res prefix frame line
+
   -- a line that is shown whole
   pub line_as_whole :
       (asked : How) → IsViewFor case_insensitive asked res view.Whole → is ≡ was ++ shown_after prefix frame 0 line →
-      is ≡ was ++ line_shown asked res prefix frame line
+      Shows asked
   line_as_whole how.Whole for said = said
-  line_as_whole how.Matches for said = absurd for
-  line_as_whole how.Which for said = absurd for
+  line_as_whole asked for said = absurd for
 
   -- the matches of a line
   pub line_as_matches : (asked : How) (own : SpanSearcher) → IsViewFor case_insensitive asked res (view.Matches own) →
       (IsRegexOf (bytewise case_insensitive) res own.pattern.regex
       → is ≡ was ++ parts_shown prefix frame line (left_any false res line None)) →
-      is ≡ was ++ line_shown asked res prefix frame line
-  line_as_matches how.Whole own for said = absurd for
+      Shows asked
   line_as_matches how.Matches own for said = said for
-  line_as_matches how.Which own for said = absurd for
+  line_as_matches asked own for said = absurd for
 
   -- a line after the numbers of the patterns that match it
   pub line_as_which : (asked : How) (own : SetSearcher) → IsViewFor case_insensitive asked res (view.Which own) →
       (IsDfaOf (bytewise case_insensitive) res own.set.dfa
       → is ≡ was ++ which_shown prefix frame line (map (is_found false line) res)) →
-      is ≡ was ++ line_shown asked res prefix frame line
-  line_as_which how.Whole own for said = absurd for
-  line_as_which how.Matches own for said = absurd for
+      Shows asked
   line_as_which how.Which own for said = said for
+  line_as_which asked own for said = absurd for
+
+  -- a line with each match replaced
+  pub line_as_replaced : (asked : How) (own : Replacer) → IsViewFor case_insensitive asked res (view.Replaced own) →
+      (IsRegexOf (bytewise case_insensitive) res own.pattern.regex → FindAllGroups own.groups.programs.list.items res
+      → is ≡ was ++ shown_after prefix frame 0 (replaced_line replacements res line)) →
+      Shows asked
+  line_as_replaced how.Replaced own for said = said for.0 for.1
+  line_as_replaced asked own for said = absurd for
+
+  -- what the matches of a line are replaced by
+  pub line_as_replacements : (asked : How) (own : Replacer) →
+      IsViewFor case_insensitive asked res (view.Replacements own) →
+      (IsRegexOf (bytewise case_insensitive) res own.pattern.regex → FindAllGroups own.groups.programs.list.items res
+      → is ≡ was ++ replacements_shown (expansion replacements res line) prefix frame (left_any false res line None)) →
+      Shows asked
+  line_as_replacements how.Replacements own for said = said for.0 for.1
+  line_as_replacements asked own for said = absurd for

@@ -27,6 +27,10 @@ IsViewBuilt case_insensitive capacity nfa view.Whole = Unit {0}
 IsViewBuilt case_insensitive capacity nfa (view.Matches s) =
     BuildsOne (settings_with (grep_settings LeftmostFirst capacity) (bytewise case_insensitive)) nfa s.pattern.regex
 IsViewBuilt case_insensitive capacity nfa (view.Which s) = Builds (grep_settings KindAll capacity) nfa s.set.dfa
+IsViewBuilt case_insensitive capacity nfa (view.Replaced r) =
+    BuildsOne (settings_with (grep_settings LeftmostFirst capacity) (bytewise case_insensitive)) nfa r.pattern.regex
+IsViewBuilt case_insensitive capacity nfa (view.Replacements r) =
+    BuildsOne (settings_with (grep_settings LeftmostFirst capacity) (bytewise case_insensitive)) nfa r.pattern.regex
 
 -- the searchers of a grep are built from an NFA with the settings of a grep
 pub record IsGrepBuilt (case_insensitive : Bool) (capacity : ℕ) (nfa : Automaton) (grep : Grep) : Type 0 where

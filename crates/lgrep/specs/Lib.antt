@@ -1,5 +1,7 @@
 pub mod Lines
 pub mod Blocks
+pub mod Templates
+pub mod Replaced
 pub mod Shown
 pub mod Around
 pub mod Contexts

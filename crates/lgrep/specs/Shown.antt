@@ -7,12 +7,14 @@ use Rattle.automata_base.specs.Haystacks.PatternSet.{members}
 use Rattle.regex_automata.specs.Promises.{Match}
 use Rattle.meaning.specs.Patterns.{is_found, left_any}
 use Rattle.lgrep.specs.Lines.{line_number}
+use Rattle.lgrep.specs.Replaced.{expansion, replaced_line}
 use Rattle.lgrep.specs.Usages.{capped_sum}
 use Rattle.lgrep.specs.declared.position.Position.{Position}
 use Rattle.lgrep.specs.declared.show.Frame.{Frame}
 use Rattle.lgrep.specs.declared.show.How.{How}
 use Rattle.lgrep.specs.declared.show.How.TheVariants as how
 use Rattle.lgrep.specs.declared.show.Show.{Show}
+use Rattle.lgrep.specs.declared.template.Replacement.{Replacement}
 
 -- the name of the file and this byte, or with `-Z` a NUL in its place
 abbrev pub ended_name : Show → (byte : ℕ) → List ℕ
@@ -85,12 +87,25 @@ numbers_listed first (pattern ∷ patterns) = number_after first pattern ++ numb
 abbrev pub which_shown : (prefix : List ℕ) → Frame → (line : List ℕ) → (flags : List Bool) → List ℕ
 which_shown prefix frame line flags = shown_after prefix frame 0 (numbers_listed true (members flags) ++ 58 ∷ line)
 
--- a line that is taken: the line, only its matches, or the line after the numbers of the patterns that match it by
--- themselves
-abbrev pub line_shown : How → List Re → (prefix : List ℕ) → Frame → (line : List ℕ) → List ℕ
-line_shown how.Whole res prefix frame line = shown_after prefix frame 0 line
-line_shown how.Matches res prefix frame line = parts_shown prefix frame line (left_any false res line None)
-line_shown how.Which res prefix frame line = which_shown prefix frame line (map (is_found false line) res)
+-- what each of these matches is replaced by, one after another
+abbrev pub replacements_shown : (expand : Match → List ℕ) → (prefix : List ℕ) → Frame → List Match → List ℕ
+replacements_shown expand prefix frame [] = []
+replacements_shown expand prefix frame (m ∷ ms) =
+    shown_after prefix frame m.start (expand m) ++ replacements_shown expand prefix frame ms
+
+-- a line that is taken: the line, only its matches, the line after the numbers of the patterns that match it by
+-- themselves, the line with each match replaced, or only what its matches are replaced by
+abbrev pub line_shown :
+    How → List Replacement → List Re → (prefix : List ℕ) → Frame → (line : List ℕ) → List ℕ
+line_shown how.Whole replacements res prefix frame line = shown_after prefix frame 0 line
+line_shown how.Matches replacements res prefix frame line =
+    parts_shown prefix frame line (left_any false res line None)
+line_shown how.Which replacements res prefix frame line =
+    which_shown prefix frame line (map (is_found false line) res)
+line_shown how.Replaced replacements res prefix frame line =
+    shown_after prefix frame 0 (replaced_line replacements res line)
+line_shown how.Replacements replacements res prefix frame line =
+    replacements_shown (expansion replacements res line) prefix frame (left_any false res line None)
 
 -- whether no line is shown, because only the count, names or nothing is asked for, or because the file is binary
 abbrev pub is_silent : Show → Bool
@@ -100,7 +115,8 @@ is_silent show = show.flags.count || show.flags.names || show.flags.missing || s
 abbrev pub found_shown : Show → List Re → Position × List ℕ → List ℕ
 found_shown show res line =
     cond (is_silent show) []
-    (line_shown show.flags.how res (prefix_shown show true (line_number line.0)) (frame_of show true line.0) line.1)
+    (line_shown show.flags.how show.replacements.items res (prefix_shown show true (line_number line.0))
+    (frame_of show true line.0) line.1)
 
 -- what is shown of lines that are taken, one after another, by the flags
 abbrev pub lines_shown : Show → List Re → (found : List (Position × List ℕ)) → List ℕ
@@ -112,6 +128,8 @@ abbrev pub unless_matches : How → (shown : List ℕ) → List ℕ
 unless_matches how.Whole shown = shown
 unless_matches how.Matches shown = []
 unless_matches how.Which shown = shown
+unless_matches how.Replaced shown = shown
+unless_matches how.Replacements shown = []
 
 -- what is shown of a line at a position that is near a line that is taken, by the flags
 abbrev pub near_shown : Show → Position × List ℕ → List ℕ

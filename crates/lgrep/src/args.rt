@@ -29,6 +29,8 @@ pub struct Args {
     /// The capacity of each cache, in bytes.
     pub capacity: usize,
     pub patterns: Vec<String>,
+    /// What matches are replaced by, if they are.
+    pub template: Option<String>,
     /// The globs of `--include` and `--exclude`, in the order in which they are given.
     pub globs: Vec<Glob>,
     /// The globs of `--exclude-dir`.
@@ -59,6 +61,7 @@ impl Drop for Args {
             stats: _stats,
             capacity: _capacity,
             patterns: _patterns,
+            template: _template,
             globs: _globs,
             directories: _directories,
             files: _files,
@@ -115,6 +118,15 @@ fn as_patterns() -> Wording {
     }
 }
 
+/// Returns what is printed of each line if matches are replaced, instead of what is printed if they are not.
+fn replacing(how: How) -> How {
+    match how {
+        How::Whole | How::Replaced => How::Replaced,
+        How::Matches | How::Replacements => How::Replacements,
+        How::Which => How::Which,
+    }
+}
+
 /// Appends the patterns of an argument, which are separated by line feeds.
 fn push_patterns(alloc: Global, text: &str, patterns: &mut Vec<String>) -> Result<()> {
     for line in text.split('\n') {
@@ -151,6 +163,7 @@ impl Args {
             stats: false,
             capacity: 64 << 20,
             patterns: Vec::new(alloc),
+            template: None,
             globs: Vec::new(alloc),
             directories: Vec::new(alloc),
             files: Vec::new(alloc),
@@ -164,7 +177,7 @@ impl Args {
         }
     }
 
-    /// Takes a value that is about patterns, or any other value.
+    /// Takes a value that is about patterns or what replaces them, or any other value.
     fn take_value(&mut self, rt: &HostRuntime, value: Value, text: &str) -> Result<()> {
         self.awaited = None;
         match value {
@@ -175,6 +188,10 @@ impl Args {
             Value::PatternFile => {
                 self.has_patterns = true;
                 push_file(rt, text, &mut self.patterns)
+            }
+            Value::Template => {
+                self.template = Some(String::from_str(rt.alloc(), text)?);
+                Ok(())
             }
             Value::Include | Value::Exclude | Value::ExcludeDirectory => {
                 self.take_glob(rt.alloc(), value, text)
@@ -417,7 +434,8 @@ impl Args {
         }
     }
 
-    /// Fails if there is no pattern, if the value of a flag is missing, or if both `-v` and `--which` are given.
+    /// Fails if there is no pattern, if the value of a flag is missing, or if both `--which` and `-v` or `--replace` are
+    /// given.
     fn check(&self) -> Result<()> {
         if self.awaited.is_some() {
             bail!("the last flag has no value; see lgrep --help");
@@ -427,6 +445,9 @@ impl Args {
         }
         if self.flags.invert && matches!(self.flags.how, How::Which) {
             bail!("-v and --which exclude each other");
+        }
+        if self.template.is_some() && matches!(self.flags.how, How::Which) {
+            bail!("--replace and --which cannot be used together");
         }
         Ok(())
     }
@@ -444,6 +465,9 @@ impl Args {
             } else {
                 self.take_other(rt.alloc(), "-")?;
             }
+        }
+        if self.template.is_some() {
+            self.flags.how = replacing(self.flags.how);
         }
         self.flags.around = self.around();
         self.flags.named = self.names.unwrap_or(self.files.len() > 1);

@@ -104,7 +104,7 @@ fn push_separator(last: Last, shown: &mut Vec<u8>) -> Result<()>
 fn push_near(alloc: Global, show: &Show, line: &Line<'_>, shown: &mut Vec<u8>) -> Result<()>
     ensures { OnOk result (shown.new.items ≡ shown.old.items ++ near_shown show.now (found_line line.now)) }
 {
-    if matches!(show.flags.how, How::Matches) {
+    if matches!(show.flags.how, How::Matches | How::Replacements) {
         return Ok(());
     }
     let prefix = prefix(alloc, show, false, line.position.number())?;

@@ -1,26 +1,31 @@
 //! Builds the searchers for the patterns: their NFA, and what is built from it.
-ghost use Rattle.std.specs.Prelude.{◌≡◌, Bool, List, IfOk, OnOk, map};
+ghost use Rattle.std.specs.Prelude.{◌≡◌, Bool, List, IfOk, IsTrue, OnOk, map};
 ghost use Rattle.regex_hir.specs.Re.{Re};
 ghost use Rattle.automata_base.specs.Answers.TruePairs.{KeepsUtf8};
 ghost use Rattle.automata_config.specs.Options.{overwritten, unset};
 ghost use Rattle.automata_hybrid.specs.Machines.Builds.{Builds};
 ghost use Rattle.regex_automata.specs.Promises.{Forward, KindAll, LeftmostFirst, engine_of};
 ghost use Rattle.regex_automata.specs.Regexes.Builds.{BuildsOne};
-ghost use Rattle.patterns.specs.Patterns.{HasNoLookCycle, IsJoinedNfa, IsNfaOf, IsRegexOf, settings_with};
+ghost use Rattle.meta.specs.Groups.{FindAllGroups};
+ghost use Rattle.meta.specs.Programs.{AreProgramsOf};
+ghost use Rattle.patterns.specs.Patterns.{AreMeanings, HasNoLookCycle, IsJoinedNfa, IsNfaOf, IsRegexOf, config_of};
+ghost use Rattle.patterns.specs.Patterns.{settings_with};
 ghost use Rattle.patterns.specs.Sets.{IsDfaOf};
 ghost use Rattle.lgrep.specs.Lines.{bytewise};
 ghost use Rattle.lgrep.specs.Contexts.{IsFirstContext};
 ghost use Rattle.lgrep.specs.Built.{IsGrepBuilt, IsViewBuilt, grep_settings};
-ghost use Rattle.lgrep.specs.Greps.{IsGrepFor, IsViewFor};
+ghost use Rattle.lgrep.specs.Greps.{HasGroupsFor, IsGrepFor, IsReplacerFor, IsViewFor, replaces};
 
 use crate::around::Context;
 use crate::lines::LineSearcher;
+use crate::replace::{GroupFinder, Replacer};
 use crate::search::Grep;
 use crate::sets::SetSearcher;
 use crate::show::{Around, How, Show};
 use crate::spans::SpanSearcher;
 use crate::view::View;
 use anyhow::{Result, bail};
+use meta::Programs;
 use patterns::{Options, Pattern, PatternError, RegexSet, nfa_of};
 use regex_automata::hybrid::BuildError;
 use regex_automata::hybrid::dfa::{Config, DFA};
@@ -114,6 +119,18 @@ fn line_searcher(nfa: NFA, capacity: usize) -> Result<LineSearcher>
     LineSearcher::new(dfa)
 }
 
+/// Builds the pattern of an NFA, whose searches find the matches of the patterns.
+fn pattern_of(nfa: NFA, case_insensitive: bool, capacity: usize) -> Result<Pattern>
+    ensures meant { IfOk result (λ p. (res : List Re) → IsJoinedNfa (bytewise case_insensitive) res nfa
+        → IsRegexOf (bytewise case_insensitive) res p.regex) }
+    ensures built { IfOk result (λ p. BuildsOne (settings_with (grep_settings LeftmostFirst capacity)
+        (bytewise case_insensitive)) nfa p.regex) }
+{
+    let how = bytewise(case_insensitive);
+    let config = settings(MatchKind::LeftmostFirst, capacity);
+    Ok(Pattern::from_nfa_with(nfa, &how, config)?)
+}
+
 /// Builds the searcher for the matches of the patterns of an NFA.
 fn span_searcher(nfa: NFA, case_insensitive: bool, capacity: usize) -> Result<SpanSearcher>
     ensures meant { IfOk result (λ s. (res : List Re) → IsJoinedNfa (bytewise case_insensitive) res nfa
@@ -121,11 +138,49 @@ fn span_searcher(nfa: NFA, case_insensitive: bool, capacity: usize) -> Result<Sp
     ensures built { IfOk result (λ s. BuildsOne (settings_with (grep_settings LeftmostFirst capacity)
         (bytewise case_insensitive)) nfa s.pattern.regex) }
 {
-    let how = bytewise(case_insensitive);
-    let config = settings(MatchKind::LeftmostFirst, capacity);
-    let pattern = Pattern::from_nfa_with(nfa, &how, config)?;
+    let pattern = pattern_of(nfa, case_insensitive, capacity)?;
     let spans = SpanSearcher::new(pattern)?;
     Ok(spans)
+}
+
+/// Builds what replaces the matches of the patterns of an NFA, by programs that find the groups of the same patterns.
+fn replacer(
+    alloc: Global,
+    nfa: NFA,
+    programs: Programs,
+    case_insensitive: bool,
+    capacity: usize,
+) -> Result<Replacer>
+    ensures meant { IfOk result (λ r. (res : List Re) → IsJoinedNfa (bytewise case_insensitive) res nfa
+        → FindAllGroups programs.list.items res → IsReplacerFor case_insensitive res r) }
+    ensures built { IfOk result (λ r. BuildsOne (settings_with (grep_settings LeftmostFirst capacity)
+        (bytewise case_insensitive)) nfa r.pattern.regex) }
+{
+    let groups = GroupFinder::new(alloc, programs)?;
+    let pattern = pattern_of(nfa, case_insensitive, capacity)?;
+    let replacer = Replacer::new(alloc, pattern, groups)?;
+    Ok(replacer)
+}
+
+/// Compiles what finds the groups of patterns, if their matches are replaced; otherwise it finds no groups.
+pub fn programs_of(
+    alloc: Global,
+    how: How,
+    patterns: &[&str],
+    case_insensitive: bool,
+) -> Result<Programs, PatternError>
+    ensures meant { IfOk result (λ programs. (res : List Re)
+        → AreMeanings (config_of (bytewise case_insensitive)) (map (λ text. text.now) patterns.now) res
+        → HasGroupsFor how res programs) }
+    ensures named { IfOk result (λ programs. IsTrue (replaces how) →
+        AreProgramsOf (config_of (bytewise case_insensitive)) (map (λ text. text.now) patterns.now)
+        programs.list.items) }
+{
+    let options = bytewise(case_insensitive);
+    match how {
+        How::Replaced | How::Replacements => Programs::new(alloc, patterns, &options),
+        How::Whole | How::Matches | How::Which => Programs::new(alloc, &[], &options),
+    }
 }
 
 /// Fails if a match might split a UTF-8 encoded character. An NFA outside UTF-8 mode always passes.
@@ -150,9 +205,16 @@ pub fn set_searcher(nfa: NFA, capacity: usize) -> Result<SetSearcher>
 }
 
 /// Builds the searcher for what is shown of each line.
-fn view_of(nfa: &NFA, how: How, case_insensitive: bool, capacity: usize) -> Result<View>
+fn view_of(
+    alloc: Global,
+    nfa: &NFA,
+    programs: Programs,
+    how: How,
+    case_insensitive: bool,
+    capacity: usize,
+) -> Result<View>
     ensures meant { IfOk result (λ view. (res : List Re) → IsJoinedNfa (bytewise case_insensitive) res nfa.now
-        → IsViewFor case_insensitive how res view) }
+        → HasGroupsFor how res programs → IsViewFor case_insensitive how res view) }
     ensures built { IfOk result (IsViewBuilt case_insensitive capacity nfa.now) }
 {
     match how {
@@ -166,6 +228,16 @@ fn view_of(nfa: &NFA, how: How, case_insensitive: bool, capacity: usize) -> Resu
             let copy = nfa.clone()?;
             let sets = set_searcher(copy, capacity)?;
             Ok(View::Which(sets))
+        }
+        How::Replaced => {
+            let copy = nfa.clone()?;
+            let replacer = replacer(alloc, copy, programs, case_insensitive, capacity)?;
+            Ok(View::Replaced(replacer))
+        }
+        How::Replacements => {
+            let copy = nfa.clone()?;
+            let replacer = replacer(alloc, copy, programs, case_insensitive, capacity)?;
+            Ok(View::Replacements(replacer))
         }
     }
 }
@@ -181,25 +253,28 @@ fn context_of(alloc: Global, around: Option<Around>) -> Context
     Context::new(alloc, around.unwrap_or(none))
 }
 
-/// Builds a grep for the patterns of an NFA, which has searched nothing yet. Each cache has this capacity, in bytes, or
-/// the minimum if that is larger; no byte makes a search quit, and no search gives up.
+/// Builds a grep for the patterns of an NFA, which has searched nothing yet; the programs are those that `programs_of`
+/// compiled. Each cache has this capacity, in bytes, or the minimum if that is larger; no byte makes a search quit, and
+/// no search gives up.
 pub fn grep_of(
     alloc: Global,
     show: Show,
     nfa: NFA,
+    programs: Programs,
     case_insensitive: bool,
     capacity: usize,
 ) -> Result<Grep>
     requires { HasNoLookCycle nfa }
     ensures meant { IfOk result (λ grep. (res : List Re) → IsJoinedNfa (bytewise case_insensitive) res nfa
-        → IsGrepFor case_insensitive res grep) }
+        → HasGroupsFor show.flags.how res programs → IsGrepFor case_insensitive res grep) }
     ensures built { IfOk result (IsGrepBuilt case_insensitive capacity nfa) }
     ensures show { IfOk result (λ grep. grep.show ≡ show) }
     ensures next { IfOk result (λ grep. grep.lines.next ≡ record { lines = 0; bytes = 0 }) }
     ensures count { IfOk result (λ grep. grep.count ≡ 0) }
     ensures context { IfOk result (λ grep. IsFirstContext show.flags.around grep.context) }
 {
-    let view = view_of(&nfa, show.flags.how, case_insensitive, capacity)?;
+    let how = show.flags.how;
+    let view = view_of(alloc, &nfa, programs, how, case_insensitive, capacity)?;
     let lines = line_searcher(nfa, capacity)?;
     let context = context_of(alloc, show.flags.around);
     Ok(Grep::new(alloc, show, lines, view, context))

@@ -50,6 +50,7 @@ pub enum Value {
     Maximum,
     Pattern,
     PatternFile,
+    Template,
 }
 
 /// Returns the flag without a value that is this letter.
@@ -147,6 +148,7 @@ pub fn value_of_word(word: &str) -> Option<Value> {
         "include" => Some(Value::Include),
         "max-count" => Some(Value::Maximum),
         "regexp" => Some(Value::Pattern),
+        "replace" => Some(Value::Template),
         _ => None,
     }
 }

@@ -38,6 +38,7 @@ fn print_output(rt: &HostRuntime) -> Result<()> {
     println!(rt; "  -l, --files-with-matches   prints only the names of files with such a line")?;
     println!(rt; "  -L, --files-without-match  prints only the names of files without one")?;
     println!(rt; "  -o, --only-matching        prints only the matches of the lines")?;
+    println!(rt; "      --replace=TEXT         prints TEXT in place of each match")?;
     println!(rt; "      --which                prints before each line which patterns match it")?;
     println!(rt; "  -q, --quiet, --silent      prints nothing")?;
     println!(rt; "  -n, --line-number          prints line numbers")?;

@@ -39,6 +39,7 @@
 //!     -L, --files-without-match       only the names of files without such a line
 //!     -q, --quiet, --silent           nothing
 //!     -o, --only-matching             only the matches of the lines
+//!     --replace=TEXT                  TEXT in place of each match; with -o only that
 //!     --which                         before each line, which patterns match it
 //!     -n, --line-number               line numbers
 //!     -b, --byte-offset               the offset of each line, or with -o of each match
@@ -83,6 +84,19 @@
 //! which they are given, so that those of one `-f FILE` have the numbers of its lines: `2,17:the line`. `--which`
 //! excludes `-o` and `-v`.
 //!
+//! # Replacements
+//!
+//! With `--replace` each match is replaced by a text, in which `$1` and `${1}` stand for what group 1 matched, `$name`
+//! and `${name}` for what the group with that name matched, `$0` for the match and `$$` for `$`, as in Rust's regex
+//! crate and in ripgrep. A name without braces is as long as possible: `$1a` is a group with the name `1a`. A group that
+//! does not exist or took no part in the match is empty, and a `$` that begins no reference stands for itself. Groups
+//! are numbered from 1 over all patterns, in the order in which these are given; a name is looked up in the pattern that
+//! matched. Empty matches are replaced, too. Which lines are taken does not change, nor do their numbers, offsets and
+//! the lines around them. `--replace` has no short form, and excludes `--which`.
+//!
+//! With `-o` only what replaces the matches is printed, each on a line of its own, even if it is empty, so that with
+//! `-o --replace '$1'` group 1 of each match is printed. With `-b` the offset before it is that of the match.
+//!
 //! # Lines around
 //!
 //! A line that is not taken has `-` in place of the colons after its number and its offset, and so after its file name.
@@ -120,11 +134,16 @@
 //! shown of the lines taken and of those around them, and their count, are what the flags say (`Grep::search`). The
 //! patterns' texts are those that are searched for: what `-F`, `-w`, `-x` and `-z` make of a pattern, and of its word
 //! boundaries, is tested. With `--which` the numbers are those of the patterns that match the line, each by itself.
+//! With `--replace` each match is replaced by what the pieces of the text stand for, with the groups that the patterns'
+//! texts mean (`replaced_line`), and the pieces are those of the text by the kit's specification of the syntax of Rust's
+//! regex crate (`replacements_of`).
 //! Blocks are cut after the end of a line, and no byte is lost (`Blocks::take_ended`). For reading the arguments,
 //! finding the files and writing, only safety is proved.
 #![tactic(auto)]
 
+ghost use Rattle.std.specs.Prelude.{◌≡◌, IfOk, IfSome, string_bytes};
 ghost use Rattle.patterns.specs.Patterns.{HasNoLookCycle};
+ghost use Rattle.lgrep.specs.Templates.{AreReplacements};
 
 mod args;
 mod around;
@@ -138,21 +157,25 @@ mod help;
 mod lines;
 mod paths;
 mod position;
+mod replace;
 mod search;
 mod sets;
 mod show;
 mod spans;
 mod stats;
+mod template;
 mod texts;
 mod view;
 
 use crate::args::{Args, Request};
-use crate::build::{bytewise, grep_of, patterns_nfa, test_patterns};
+use crate::build::{bytewise, grep_of, patterns_nfa, programs_of, test_patterns};
 use crate::files::{Filter, Search};
 use crate::globs::Globs;
 use crate::help::{print_help, print_version};
 use crate::show::Show;
+use crate::template::replacements_of;
 use anyhow::Result;
+use meta::Programs;
 use patterns::{Fault, PatternError};
 use regex_automata::nfa::thompson::NFA;
 use std::alloc::Global;
@@ -180,19 +203,35 @@ fn filter_of(alloc: Global, args: &Args) -> Result<Filter> {
     Ok(Filter { files, directories })
 }
 
-/// Searches the files for the patterns of an NFA, and returns the status.
-fn search_files(rt: &HostRuntime, args: &Args, nfa: NFA) -> Result<ExitCode>
+/// Returns what to print, where these programs find the groups of this number of patterns.
+fn show_of(alloc: Global, args: &Args, programs: &Programs, count: usize) -> Result<Show>
+    ensures flags { IfOk result (λ show. show.flags ≡ args.now.flags) }
+    ensures replacements { IfSome args.now.template (λ template. IfOk result (λ show.
+        AreReplacements programs.now (string_bytes template) count show.replacements.items)) }
+{
+    let replacements = match &args.template {
+        Some(template) => replacements_of(alloc, programs, count, template.as_str())?,
+        None => Vec::new(alloc),
+    };
+    Ok(Show {
+        flags: args.flags,
+        name: String::new(alloc),
+        binary: false,
+        replacements,
+    })
+}
+
+/// Searches the files for the patterns of an NFA, which has these texts, and returns the status.
+fn search_files(rt: &HostRuntime, args: &Args, nfa: NFA, texts: &[&str]) -> Result<ExitCode>
     requires { HasNoLookCycle nfa }
 {
-    let show = Show {
-        flags: args.flags,
-        name: String::new(rt.alloc()),
-        binary: false,
-    };
-    let since = Instant::now(rt)?;
-    let filter = filter_of(rt.alloc(), args)?;
+    let alloc = rt.alloc();
     let case_insensitive = args.wording.case_insensitive;
-    let grep = grep_of(rt.alloc(), show, nfa, case_insensitive, args.capacity)?;
+    let since = Instant::now(rt)?;
+    let programs = programs_of(alloc, args.flags.how, texts, case_insensitive)?;
+    let show = show_of(alloc, args, &programs, texts.len())?;
+    let filter = filter_of(alloc, args)?;
+    let grep = grep_of(alloc, show, nfa, programs, case_insensitive, args.capacity)?;
     let mut search = Search::new(rt, grep, args.reading, filter);
     search.search_all(rt, args.files.as_slice())?;
     if args.stats {
@@ -224,7 +263,7 @@ fn search_bounded(rt: &HostRuntime, args: &Args, inner: &[String]) -> Result<Exi
     let bounded = args.wording.bounded_texts(rt.alloc(), inner)?;
     let texts = texts_of(rt.alloc(), bounded.as_slice())?;
     match patterns_nfa(rt.alloc(), texts.as_slice(), args.wording.case_insensitive) {
-        Ok(nfa) => search_files(rt, args, nfa),
+        Ok(nfa) => search_files(rt, args, nfa, texts.as_slice()),
         Err(error) => report(rt, texts.as_slice(), args.wording.case_insensitive, error),
     }
 }
@@ -249,7 +288,7 @@ fn search_inner(rt: &HostRuntime, args: &Args) -> Result<ExitCode> {
         .inner_texts(rt.alloc(), args.patterns.as_slice())?;
     let texts = texts_of(rt.alloc(), inner.as_slice())?;
     match patterns_nfa(rt.alloc(), texts.as_slice(), args.wording.case_insensitive) {
-        Ok(nfa) if args.wording.is_plain() => search_files(rt, args, nfa),
+        Ok(nfa) if args.wording.is_plain() => search_files(rt, args, nfa, texts.as_slice()),
         Ok(_) => search_bounded(rt, args, inner.as_slice()),
         Err(error) if error.fault == Fault::UnicodeWord => {
             search_words(rt, args, inner.as_slice(), texts.as_slice())

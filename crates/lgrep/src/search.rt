@@ -165,8 +165,14 @@ impl Grep {
         let prefix = prefix(self.alloc, &self.show, true, line.position.number())?;
         let frame = frame_of(&self.show, true, line.position);
         let bytes = prefix.as_bytes();
-        self.view
-            .push(self.alloc, bytes, &frame, line.bytes, &mut self.shown)
+        self.view.push(
+            self.alloc,
+            &self.show.replacements,
+            bytes,
+            &frame,
+            line.bytes,
+            &mut self.shown,
+        )
     }
 
     /// Counts lines that are taken, and appends what is shown of them.

@@ -4,6 +4,7 @@ ghost use Rattle.lgrep.specs.Shown.{count_shown, end_shown, file_shown, frame_of
 ghost use Rattle.lgrep.specs.Shown.{offset_shown, prefix_shown, shown_after, tab_shown};
 
 use crate::position::Position;
+use crate::template::Replacement;
 use anyhow::Result;
 use std::alloc::Global;
 
@@ -16,6 +17,10 @@ pub enum How {
     Matches,
     /// The numbers of the patterns that match it, and the line.
     Which,
+    /// The line, with each match replaced.
+    Replaced,
+    /// Only what its matches are replaced by, each on a line of its own.
+    Replacements,
 }
 
 /// How many lines are shown before and after each line that is taken.
@@ -64,6 +69,8 @@ pub struct Show {
     pub name: String,
     /// Whether the file is binary, so that no line is printed.
     pub binary: bool,
+    /// What the matches of each pattern are replaced by, if they are.
+    pub replacements: Vec<Replacement>,
 }
 
 // An owner drops this with one call, so that its proof has no step for each field.
@@ -73,6 +80,7 @@ impl Drop for Show {
             flags: _flags,
             name: _name,
             binary: _binary,
+            replacements: _replacements,
         } = self;
     }
 }

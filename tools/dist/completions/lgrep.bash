@@ -17,7 +17,7 @@ _lgrep() {
         --color | --colour) mapfile -t COMPREPLY < <(compgen -W "auto never" -- "$value") ;;
         -f | --file) mapfile -t COMPREPLY < <(compgen -f -- "$value") ;;
         -A | --after-context | -B | --before-context | -C | --context) ;;
-        -e | --regexp | -m | --max-count | --include | --exclude | --exclude-dir | --cache) ;;
+        -e | --regexp | -m | --max-count | --replace | --include | --exclude | --exclude-dir | --cache) ;;
         *)
             if [[ $current == -* ]]; then
                 mapfile -t COMPREPLY < <(compgen -W "$_lgrep_flags" -- "$current")
@@ -31,7 +31,7 @@ _lgrep() {
 _lgrep_flags="-e --regexp -f --file -F --fixed-strings -E --extended-regexp -P --perl-regexp -i -y --ignore-case
     --no-ignore-case -w --word-regexp -x --line-regexp -v --invert-match -m --max-count -z --null-data
     -A --after-context -B --before-context -C --context -c --count -l --files-with-matches -L --files-without-match
-    -q --quiet --silent -o --only-matching --which -n --line-number -b --byte-offset -T --initial-tab -H
+    -q --quiet --silent -o --only-matching --replace --which -n --line-number -b --byte-offset -T --initial-tab -H
     --with-filename -h --no-filename -Z --null -s --no-messages --color --stats --help -V --version -r -R --recursive
     --dereference-recursive --include --exclude --exclude-dir -a --text -I --binary-files --cache -U --binary
     --line-buffered"

@@ -19,6 +19,7 @@ complete -c lgrep -s l -l files-with-matches -d 'print only the names of files w
 complete -c lgrep -s L -l files-without-match -d 'print only the names of files without such a line'
 complete -c lgrep -s q -l quiet -l silent -d 'print nothing'
 complete -c lgrep -s o -l only-matching -d 'print only the matches'
+complete -c lgrep -l replace -x -d 'print a text in place of each match'
 complete -c lgrep -l which -d 'print which patterns match a line'
 complete -c lgrep -s n -l line-number -d 'print line numbers'
 complete -c lgrep -s b -l byte-offset -d 'print the offsets of lines or matches'
