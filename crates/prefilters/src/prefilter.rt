@@ -1,5 +1,5 @@
 //! A fast search for the first offset where a match may begin.
-ghost use Rattle.std.specs.Prelude.{◌≡◌, ◌≤◌, ℕ, List, IfOk, IfSome, length, map};
+ghost use Rattle.std.specs.Prelude.{◌≡◌, ◌↔◌, ◌≤◌, ℕ, List, IfOk, IfSome, IsTrue, length, map};
 ghost use Rattle.regex_extract.specs.Needles.{needles_of};
 ghost use Rattle.regex_literal.specs.BoundedSearch.{IsBounded};
 ghost use Rattle.regex_literal.specs.Find.{AllAtMost};
@@ -157,7 +157,9 @@ impl Prefilter {
     }
 
     /// Whether a needle is near an offset only if it occurs there: every match begins with one.
-    pub fn is_at_start(&self) -> bool {
+    pub fn is_at_start(&self) -> bool
+        ensures { IsTrue result ↔ (self.now.head ≡ Within 0) }
+    {
         matches!(self.head, Head::Within(0))
     }
 
