@@ -39,6 +39,18 @@ const WORDS: [(&str, &str, &str); 7] = [
     (r"\b", "abc", "0..0 3..3 "),
 ];
 
+/// The texts of a set.
+const SET: [&str; 5] = [r"\bfoo\b", r"\bслово\b", r"\Bо\B", "字", r"\b"];
+
+/// A haystack, and which texts of the set match in it.
+const MEMBERS: [(&str, &str); 5] = [
+    ("слово", "1 2 4 "),
+    ("foo 字", "0 3 4 "),
+    ("foo", "0 4 "),
+    ("…", ""),
+    ("", ""),
+];
+
 /// Shows the pattern of the first match from an offset on, and the spans of its groups.
 fn shown(alloc: Global, texts: &[&str], hay: &[u8], start: usize) -> Result<String, Fail> {
     let regex = Regex::any_of(alloc, texts, &Options::default())?;
@@ -169,5 +181,42 @@ fn matches_have_groups_in_turn(rt: HostRuntime) -> Result<(), Fail> {
     let hay = "é=1 b= c=2".as_bytes();
     assert_eq!(rt; count_in_turn(&regex, &mut cache, &mut captures, hay, 2), 2);
     assert!(rt; captures.get_match().is_none());
+    Ok(())
+}
+
+#[test]
+fn sets_have_matching_texts_in_every_haystack(rt: HostRuntime) -> Result<(), Fail> {
+    let alloc = rt.alloc();
+    let set = RegexSet::new(alloc, &SET, &Options::default())?;
+    let mut cache = set.create_cache(alloc)?;
+    for (hay, expected) in MEMBERS {
+        let hay = hay.as_bytes();
+        let found = set.which(alloc, &mut cache, hay)?;
+        let mut text = String::new(alloc);
+        for pattern in found.iter() {
+            write!(text, "{} ", pattern.as_usize())?;
+        }
+        assert_eq!(rt; text.as_str(), expected);
+        assert_eq!(rt; set.is_match(&mut cache, hay), !expected.is_empty());
+    }
+    Ok(())
+}
+
+#[test]
+fn matches_at_an_offset_are_of_the_first_text(rt: HostRuntime) -> Result<(), Fail> {
+    let alloc = rt.alloc();
+    let texts = [r"\bв\w*", r"\w+", ""];
+    let programs = Programs::new(alloc, &texts, &Options::default())?;
+    let mut simulations = programs.create_simulations(alloc)?;
+    let hay = "слово!".as_bytes();
+    for (at, number, end) in [(0, 1, 10), (6, 1, 10), (10, 2, 10)] {
+        if at <= hay.len() {
+            let found = programs.match_at(&mut simulations, hay, at);
+            let found = found.expect(&rt, "a match");
+            assert_eq!(rt; found.pattern().as_usize(), number);
+            assert_eq!(rt; (found.start(), found.end()), (at, end));
+        }
+    }
+    assert!(rt; programs.match_at(&mut simulations, hay, 1).is_none());
     Ok(())
 }
