@@ -14,6 +14,7 @@ pub mod Limits
 pub mod Pieces
 pub mod Programs
 pub mod Requests
+pub mod Sets
 pub mod Statuses
 pub mod Stops
 pub mod Streams
