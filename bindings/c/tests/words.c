@@ -46,6 +46,7 @@ static char text[4 * LONGEST + 1];
 /* A pattern: alternatives of elements. */
 static int parts[2][4], lengths[2], alternatives;
 static char pattern[128];
+static lazydfa_text texts[2];
 
 static unsigned long seed = 1;
 
@@ -117,10 +118,12 @@ static void make_pattern(void) {
     for (which = 0; which < alternatives; which++) {
         lengths[which] = 1 + (int)below(4);
         if (which) at += sprintf(at, "|");
+        texts[which].text = at;
         for (i = 0; i < lengths[which]; i++) {
             parts[which][i] = (int)below(i || which ? ELEMENTS : 4);
             at += sprintf(at, "%s", elements[parts[which][i]].text);
         }
+        texts[which].length = (size_t)(at - texts[which].text);
     }
 }
 
@@ -163,11 +166,38 @@ static void compare(lazydfa_cache *cache) {
     if (failed > before) show();
 }
 
-static void open(lazydfa_cache *cache, const char *it, const lazydfa_options *options) {
+/* Compares which alternatives match from each character on. The cache is one of a set of them. */
+static void compare_set(lazydfa_cache *cache) {
+    size_t from, start, found, n, room = below(3);
+    uint32_t listed[2];
+    int which, before = failed;
+    for (from = 0; from <= count; from++) {
+        lazydfa_input input = lazydfa_whole(offsets[count]);
+        input.start = offsets[from];
+        CODE(lazydfa_which(cache, bytes(text), offsets[count], &input, room, listed, 2, &found), LAZYDFA_OK);
+        for (which = 0, n = 0; which < alternatives && (size_t)which < room; which++) {
+            for (start = from; start <= count && match_rest(which, 0, start) < 0;) start++;
+            if (start > count) continue;
+            CHECK(n < found && listed[n] == (uint32_t)which);
+            n++;
+        }
+        CHECK(n == found);
+    }
+    if (failed > before) show();
+}
+
+static void open_any(lazydfa_cache *cache, const lazydfa_text *of, size_t n, const lazydfa_options *options) {
     lazydfa_regex regex = LAZYDFA_INIT;
-    CODE(lazydfa_regex_new(&regex, it, strlen(it), options, NULL), LAZYDFA_OK);
+    CODE(lazydfa_regex_any_of(&regex, of, n, options, NULL), LAZYDFA_OK);
     CODE(lazydfa_cache_new(cache, &regex), LAZYDFA_OK);
     CODE(lazydfa_regex_close(&regex), LAZYDFA_OK);
+}
+
+static void open(lazydfa_cache *cache, const char *it, const lazydfa_options *options) {
+    lazydfa_text whole;
+    whole.text = it;
+    whole.length = strlen(it);
+    open_any(cache, &whole, 1, options);
 }
 
 /* Random patterns on random haystacks; then with quit bytes and a DFA that gives up at once. */
@@ -176,7 +206,7 @@ static void random_pairs(int pairs) {
     int i, j;
     for (i = 0; i < pairs; i++) {
         lazydfa_options options = LAZYDFA_OPTIONS_INIT;
-        lazydfa_cache cache = LAZYDFA_INIT;
+        lazydfa_cache cache = LAZYDFA_INIT, set = LAZYDFA_INIT;
         if (i % 4 == 1) options.quits = quits, options.quit_count = 2;
         if (i % 4 == 2) {
             options.skip_cache_capacity_check = 1;
@@ -186,11 +216,15 @@ static void random_pairs(int pairs) {
         options.groups = i % 8 > 3;
         make_pattern();
         open(&cache, pattern, &options);
+        options.match_kind = LAZYDFA_ALL;
+        open_any(&set, texts, (size_t)alternatives, &options);
         for (j = 0; j < 8; j++) {
             make_haystack(j % 2);
             compare(&cache);
+            compare_set(&set);
         }
         CODE(lazydfa_cache_close(&cache), LAZYDFA_OK);
+        CODE(lazydfa_cache_close(&set), LAZYDFA_OK);
     }
 }
 
@@ -242,6 +276,13 @@ static void not_simulated(void) {
     input = lazydfa_whole(length);
     CODE(lazydfa_find(&cache, bytes(it), length, &input, &match), LAZYDFA_QUIT);
     CODE(lazydfa_is_match(&cache, bytes(it), length, &input), LAZYDFA_OK);
+    CODE(lazydfa_which(&cache, bytes(it), length, &input, 1, listed, 1, &found), LAZYDFA_OK);
+    CHECK(found == 1 && listed[0] == 0);
+    input.earliest = 1;
+    CODE(lazydfa_which(&cache, bytes(it), length, &input, 1, listed, 1, &found), LAZYDFA_QUIT);
+    input.earliest = 0;
+    input.end = 5;
+    CODE(lazydfa_which(&cache, bytes(it), length, &input, 1, listed, 1, &found), LAZYDFA_QUIT);
     CODE(lazydfa_cache_close(&cache), LAZYDFA_OK);
 }
 

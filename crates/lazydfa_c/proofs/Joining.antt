@@ -1,5 +1,5 @@
 -- A set that is joined with the patterns that match, over a cache whose set was emptied before.
-use Rattle.std.proofs.Common.{◌≡◌, ◌∙◌, List, Bool, ap, length, subst, sym, true}
+use Rattle.std.proofs.Common.{◌≡◌, ◌∙◌, List, Bool, ap, length, subst, sym}
 use Rattle.regex_automata.specs.Promises.{Input, IsWhich, JoinsReported, known_of, match_kind_of}
 use Rattle.std.specs.Prelude.{OnOk, ◌==◌, ◌&&◌, not, nat_le}
 use Rattle.std.specs.Result.{result_err}

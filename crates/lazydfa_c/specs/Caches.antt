@@ -1,5 +1,5 @@
 -- Contracts of the calls that reset a cache, or report its memory usage.
-use Rattle.std.specs.Prelude.{ℕ, ◌≡◌, ◌⊎◌, ◌+◌, ◌-◌, ◌^◌, ◌≤◌, List, [], ◌∷◌, length, min}
+use Rattle.std.specs.Prelude.{◌≡◌, ◌⊎◌, ◌+◌, ◌-◌, ◌^◌, ◌≤◌, List, [], ◌∷◌, length, min}
 use Rattle.automata_hybrid.specs.Cache.Caches.{dfa_of}
 use Rattle.automata_hybrid.specs.Known.Events.{usage}
 use Rattle.automata_hybrid.specs.Known.Stores.{known_of}

@@ -1,4 +1,4 @@
-use Rattle.std.proofs.Common.{◌∙◌, ap, false, length, replicate, subst, sym, true≢false}
+use Rattle.std.proofs.Common.{◌∙◌, ap, false, replicate, subst, sym, true≢false}
 use Rattle.std.specs.Prelude.{IsAscii, MatchBool}
 use Rattle.std.specs.Str.{IsNotAscii}
 use Rattle.lazydfa_c.specs.Sets.{JoinsAfterFailure, JoinsByDfa, JoinsBySimulation, SimulatesSet}
