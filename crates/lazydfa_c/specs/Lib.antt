@@ -21,5 +21,6 @@ pub mod Streams
 pub mod Tables
 pub mod Texts
 pub mod Facts
+pub mod Tokens
 pub mod Walks
 pub mod Words

@@ -27,10 +27,10 @@ use meta::Programs;
 use regex_automata::{Anchored, HalfMatch, Input, Match, MatchKind, PatternSet};
 
 /// The mark of an iteration whose haystack is ASCII.
-const ASCII: u32 = 1;
+pub const ASCII: u32 = 1;
 
 /// The mark of an iteration whose haystack is not ASCII.
-const NOT_ASCII: u32 = 2;
+pub const NOT_ASCII: u32 = 2;
 
 /// Whether the haystack of an input is ASCII. It reads all of the haystack that is.
 pub fn has_ascii(input: &Input<'_>) -> bool
@@ -116,7 +116,7 @@ impl Searcher {
     }
 
     /// Whether the match kind is `MatchKind::LeftmostFirst`.
-    fn is_leftmost_first(&self) -> bool
+    pub fn is_leftmost_first(&self) -> bool
         ensures { result ≡ is_first_kind (match_kind_of (regex_of self.now).forward.config) }
     {
         let shared = &self.shared;
