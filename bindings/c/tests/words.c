@@ -186,6 +186,42 @@ static void compare_set(lazydfa_cache *cache) {
     if (failed > before) show();
 }
 
+/* Finds the token at a character: its alternative, or -1, and where it ends. */
+static int token_at(size_t at, size_t *end) {
+    int which;
+    for (which = 0; which < alternatives; which++) {
+        long to = match_rest(which, 0, at);
+        *end = (size_t)to;
+        if (to >= 0) return *end > at ? which : -1;
+    }
+    return -1;
+}
+
+/* Compares the token at each character, and all tokens from there on. The cache is one of the alternatives as rules. */
+static void compare_tokens(lazydfa_cache *cache) {
+    lazydfa_match one, all[LONGEST];
+    size_t length = offsets[count], from, at, end, listed, n;
+    lazydfa_status status;
+    int rule, before = failed;
+    for (from = 0; from < count; from++) {
+        lazydfa_input left = lazydfa_whole(length), rest;
+        left.start = offsets[from];
+        rest = left;
+        rule = token_at(from, &end);
+        status = lazydfa_token(cache, bytes(text), length, &left, &one);
+        CHECK(status.code == (rule < 0 ? LAZYDFA_NO_TOKEN : LAZYDFA_OK));
+        CHECK(rule < 0 ? status.offset == offsets[from] : one.pattern == (uint32_t)rule && one.end == offsets[end]);
+        CHECK(rule < 0 || (one.start == offsets[from] && one.reserved == 0));
+        CHECK(left.start == offsets[rule < 0 ? from : end] && left.end == length);
+        status = lazydfa_tokens(cache, bytes(text), length, &rest, all, LONGEST, &listed);
+        for (at = from, n = 0; at < count && (rule = token_at(at, &end)) >= 0; at = end, n++)
+            CHECK(n < listed && all[n].start == offsets[at] && all[n].end == offsets[end]
+                  && all[n].pattern == (uint32_t)rule);
+        CHECK(n == listed && status.code == (at < count ? LAZYDFA_NO_TOKEN : LAZYDFA_NONE));
+    }
+    if (failed > before) show();
+}
+
 static void open_any(lazydfa_cache *cache, const lazydfa_text *of, size_t n, const lazydfa_options *options) {
     lazydfa_regex regex = LAZYDFA_INIT;
     CODE(lazydfa_regex_any_of(&regex, of, n, options, NULL), LAZYDFA_OK);
@@ -206,7 +242,7 @@ static void random_pairs(int pairs) {
     int i, j;
     for (i = 0; i < pairs; i++) {
         lazydfa_options options = LAZYDFA_OPTIONS_INIT;
-        lazydfa_cache cache = LAZYDFA_INIT, set = LAZYDFA_INIT;
+        lazydfa_cache cache = LAZYDFA_INIT, set = LAZYDFA_INIT, rules = LAZYDFA_INIT;
         if (i % 4 == 1) options.quits = quits, options.quit_count = 2;
         if (i % 4 == 2) {
             options.skip_cache_capacity_check = 1;
@@ -216,15 +252,18 @@ static void random_pairs(int pairs) {
         options.groups = i % 8 > 3;
         make_pattern();
         open(&cache, pattern, &options);
+        open_any(&rules, texts, (size_t)alternatives, &options);
         options.match_kind = LAZYDFA_ALL;
         open_any(&set, texts, (size_t)alternatives, &options);
         for (j = 0; j < 8; j++) {
             make_haystack(j % 2);
             compare(&cache);
             compare_set(&set);
+            compare_tokens(&rules);
         }
         CODE(lazydfa_cache_close(&cache), LAZYDFA_OK);
         CODE(lazydfa_cache_close(&set), LAZYDFA_OK);
+        CODE(lazydfa_cache_close(&rules), LAZYDFA_OK);
     }
 }
 
@@ -244,6 +283,8 @@ static void not_simulated(void) {
     CHECK(match.start == 5 && match.end == 6 && match.pattern == 0);
     CODE(lazydfa_which(&cache, bytes(it), length, &input, 1, listed, 1, &found), LAZYDFA_QUIT);
     token.start = 2;
+    CODE(lazydfa_token(&cache, bytes(it), length, &token, &match), LAZYDFA_NO_TOKEN);
+    token.end = 5;
     CODE(lazydfa_token(&cache, bytes(it), length, &token, &match), LAZYDFA_QUIT);
     CODE(lazydfa_pieces_begin(&cache, LAZYDFA_UNANCHORED, 0, -1, 0), LAZYDFA_OK);
     CODE(lazydfa_pieces_read(&cache, bytes(it), length, &done), LAZYDFA_QUIT);
