@@ -17,8 +17,8 @@ use Rattle.lazydfa_c.specs.declared.object.Searcher.{Searcher}
 use Rattle.lazydfa_c.specs.declared.object.Shared.{Shared}
 use Rattle.lazydfa_c.specs.declared.status.Status.{Status}
 
--- whether the programs can find the token at the start of the input: some text of the regex has a Unicode word boundary,
--- the match kind is `MatchKind::LeftmostFirst`, and the span is not empty and ends with the haystack
+-- whether the programs can find the token at the start of the input: some text of the regex has a Unicode word
+-- boundary, the match kind is `MatchKind::LeftmostFirst`, and the span is not empty and ends with the haystack
 abbrev pub can_lex : Searcher → Input → Bool
 can_lex s input =
     s.shared.words && (is_first_kind (match_kind_of (regex_of s).forward.config)
@@ -31,8 +31,8 @@ as_token at (Some m) = if nat_lt at m.end then Some m else None
 
 -- the token at the start of an input by what patterns mean: the match of the first pattern that matches there, if it is
 -- not empty
-abbrev pub IsMeantToken : (utf8 : Bool) → List Re → Input → Option Match → Type 0
-IsMeantToken utf8 res input found =
+abbrev pub IsPreferredToken : (utf8 : Bool) → List Re → Input → Option Match → Type 0
+IsPreferredToken utf8 res input found =
     found
     ≡ as_token input.start
     (option_map (numbered_match res input.haystack) (match_at utf8 res input.haystack input.start))
@@ -55,7 +55,7 @@ pub record SimulatesToken (found : Found) (old new : Request) (input : Input) (s
   -- the status reports it, and it is written
   pub told : IsTokenOrNoneTold input.start found result status
   -- it is what the patterns mean
-  pub meant : ByPrograms shared (λ utf8 res. IsMeantToken utf8 res input result)
+  pub meant : ByPrograms shared (λ utf8 res. IsPreferredToken utf8 res input result)
   -- the remaining span begins where the token ends; without a token it is unchanged
   pub left : new ≡ record old { start = start_after old.start result }
 

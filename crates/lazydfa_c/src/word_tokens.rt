@@ -8,7 +8,7 @@ ghost use Rattle.meta.specs.Sets.{match_at};
 ghost use Rattle.lazydfa_c.specs.Caches.{KeepsCaches};
 ghost use Rattle.lazydfa_c.specs.Calls.{WritesIfDone};
 ghost use Rattle.lazydfa_c.specs.Programs.{HasRoomForGroups};
-ghost use Rattle.lazydfa_c.specs.Tokens.{IsMeantToken, SimulatesToken, can_lex, marked_as, as_token};
+ghost use Rattle.lazydfa_c.specs.Tokens.{IsPreferredToken, SimulatesToken, can_lex, marked_as, as_token};
 ghost use Rattle.lazydfa_c.specs.Words.{ByPrograms, IsMarked, ascii_mark};
 
 use crate::code::Code;
@@ -49,7 +49,7 @@ fn first_token(programs: &Programs, memory: &mut GroupMemory, input: &Input<'_>)
     requires room { HasRoomForGroups memory.old programs.now }
     requires within { input.now.start ≤ length input.now.haystack }
     ensures meant { (res : List Re) → FindAllGroups programs.now.list.items res
-        → IsMeantToken programs.now.utf8 res input.now result }
+        → IsPreferredToken programs.now.utf8 res input.now result }
     ensures room { HasRoomForGroups memory.new programs.now }
 {
     let at = input.start();
@@ -71,7 +71,7 @@ impl Searcher {
     /// Returns the token at the start of an input that is the rest of a haystack, by the programs.
     fn simulate_token(&mut self, input: &Input<'_>) -> Option<Match>
         requires within { input.now.start ≤ length input.now.haystack }
-        ensures meant { ByPrograms self.old.shared (λ utf8 res. IsMeantToken utf8 res input.now result) }
+        ensures meant { ByPrograms self.old.shared (λ utf8 res. IsPreferredToken utf8 res input.now result) }
         ensures keeps { KeepsCaches self.old self.new }
     {
         let Some(programs) = &self.shared.programs else {

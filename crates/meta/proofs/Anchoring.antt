@@ -48,7 +48,8 @@ module _ (utf8 : Bool) (hay : List ℕ) (at : ℕ) where
         let runs : run_at p hay at ≡ Some found.trace =
         subst (λ (n : ℕ). run_at p hay n ≡ Some found.trace) begins found.runs in
         let w =
-        some_any hay bytes at ps res i p found.trace all (slice_get-get_or ps i p inside ∙ ap Some is) (none may) runs in
+        some_any hay bytes at ps res i p found.trace all (slice_get-get_or ps i p inside ∙ ap Some is) (none may) runs
+        in
         let here : attempt_at utf8 res hay at ≡ Some w.0 = tried utf8 res hay at may ∙ w.1 in
         let first : first_at res hay at ≡ i = w.3 in
         let ends : w.0.end ≡ span.1 = w.2 ∙ found.ends in

@@ -34,8 +34,8 @@ abbrev pub IsMadeSet : Options → (texts : List (List ℕ)) → dfas.RegexSet �
 IsMadeSet options texts made =
     IsSetOf (with_ascii made.1 options) texts made.0.dfa × IsSetBuiltOf (with_ascii made.1 options) texts made.0.dfa
 
--- why texts have no set: they have no `patterns::RegexSet`, neither for ASCII text nor, if it is not a word boundary, for
--- any
+-- why texts have no set: they have no `patterns::RegexSet`, neither for ASCII text nor, if it is not a word boundary,
+-- for any
 pub record IsMetaSetFault (options : Options) (texts : List (List ℕ)) (error : PatternError) : Type 0 where
   -- whether the set is for ASCII text
   pub ascii : Bool

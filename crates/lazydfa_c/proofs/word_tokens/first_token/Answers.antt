@@ -10,5 +10,6 @@ match_at-found-requires-clause-rooms c =
 pub returns-clause-room : goal.returns-clause-room
 returns-clause-room c = (
   sizes_from c.match_at-found.new.self.simulations.items c.args.programs.now.list.items c.match_at-found.ensures.rooms,
-  subst (λ captures. HaveRoomFor captures c.args.programs.now) (sym c.match_at-found.ensures.captures) c.requires.room.1,
+  subst (λ captures. HaveRoomFor captures c.args.programs.now) (sym c.match_at-found.ensures.captures)
+      c.requires.room.1,
 )
