@@ -48,7 +48,7 @@ void fail(lazydfa_status status) {
                 errmsg("a Unicode word boundary cannot be searched for in text that is not ASCII"),
                 errdetail("At offset %zu of the text is the byte 0x%02x.", status.offset, status.byte),
                 errhint("Write (?-u:\\b) for a word boundary of ASCII. Others are found only in text that is searched at "
-                        "once, up to lazydfa.piece_size, and not for sets and tokens."));
+                        "once, up to lazydfa.piece_size."));
     if (status.code == LAZYDFA_TOO_LARGE || status.code == LAZYDFA_STATE_IDS)
         ereport(ERROR, errcode(ERRCODE_PROGRAM_LIMIT_EXCEEDED), errmsg("regular expression is too large"),
                 errdetail("Its tables need more than %d kB.", setting_pattern_size),

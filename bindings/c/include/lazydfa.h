@@ -224,7 +224,8 @@ typedef struct {
  * match a part of a character, such as (?-u:.), is LAZYDFA_SYNTAX unless the option `bytes` is on. DFAs decide \b, a
  * word boundary of Unicode, only in an ASCII haystack. In others, and where DFAs fail, a regex with \b is simulated, in
  * time proportional to the bytes times the states, if the input is unanchored and ends with the haystack, and, but for
- * lazydfa_is_match, is not `earliest`, with LAZYDFA_LEFTMOST_FIRST. Other searches fail with LAZYDFA_QUIT there. */
+ * lazydfa_is_match, is not `earliest`, with LAZYDFA_LEFTMOST_FIRST, or for lazydfa_which with LAZYDFA_ALL. For tokens
+ * the span has to end with the haystack, with LAZYDFA_LEFTMOST_FIRST. Other searches fail with LAZYDFA_QUIT there. */
 
 /* The text of a pattern, in UTF-8. It need not end with a zero, and may contain zeros. */
 typedef struct {
@@ -358,7 +359,8 @@ lazydfa_status lazydfa_which(lazydfa_cache *cache, const uint8_t *haystack, size
 
 /* Writes the token at the start of the span: the match that begins there and is not empty. The start of the span then
    moves to the token's end. LAZYDFA_NONE at the end of the span; LAZYDFA_NO_TOKEN where no token begins. The anchored
-   mode and `earliest` are ignored. */
+   mode and `earliest` are ignored. The first call of a regex with \b notes in `reserved` whether the haystack is ASCII:
+   begin with lazydfa_whole for each haystack. */
 lazydfa_status lazydfa_token(lazydfa_cache *cache, const uint8_t *haystack, size_t length, lazydfa_input *left,
                              lazydfa_match *found);
 

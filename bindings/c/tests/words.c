@@ -46,6 +46,7 @@ static char text[4 * LONGEST + 1];
 /* A pattern: alternatives of elements. */
 static int parts[2][4], lengths[2], alternatives;
 static char pattern[128];
+static lazydfa_text texts[2];
 
 static unsigned long seed = 1;
 
@@ -117,10 +118,12 @@ static void make_pattern(void) {
     for (which = 0; which < alternatives; which++) {
         lengths[which] = 1 + (int)below(4);
         if (which) at += sprintf(at, "|");
+        texts[which].text = at;
         for (i = 0; i < lengths[which]; i++) {
             parts[which][i] = (int)below(i || which ? ELEMENTS : 4);
             at += sprintf(at, "%s", elements[parts[which][i]].text);
         }
+        texts[which].length = (size_t)(at - texts[which].text);
     }
 }
 
@@ -163,11 +166,74 @@ static void compare(lazydfa_cache *cache) {
     if (failed > before) show();
 }
 
-static void open(lazydfa_cache *cache, const char *it, const lazydfa_options *options) {
+/* Compares which alternatives match from each character on. The cache is one of a set of them. */
+static void compare_set(lazydfa_cache *cache) {
+    size_t from, start, found, n, room = below(3);
+    uint32_t listed[2];
+    int which, before = failed;
+    for (from = 0; from <= count; from++) {
+        lazydfa_input input = lazydfa_whole(offsets[count]);
+        input.start = offsets[from];
+        CODE(lazydfa_which(cache, bytes(text), offsets[count], &input, room, listed, 2, &found), LAZYDFA_OK);
+        for (which = 0, n = 0; which < alternatives && (size_t)which < room; which++) {
+            for (start = from; start <= count && match_rest(which, 0, start) < 0;) start++;
+            if (start > count) continue;
+            CHECK(n < found && listed[n] == (uint32_t)which);
+            n++;
+        }
+        CHECK(n == found);
+    }
+    if (failed > before) show();
+}
+
+/* Finds the token at a character: its alternative, or -1, and where it ends. */
+static int token_at(size_t at, size_t *end) {
+    int which;
+    for (which = 0; which < alternatives; which++) {
+        long to = match_rest(which, 0, at);
+        *end = (size_t)to;
+        if (to >= 0) return *end > at ? which : -1;
+    }
+    return -1;
+}
+
+/* Compares the token at each character, and all tokens from there on. The cache is one of the alternatives as rules. */
+static void compare_tokens(lazydfa_cache *cache) {
+    lazydfa_match one, all[LONGEST];
+    size_t length = offsets[count], from, at, end, listed, n;
+    lazydfa_status status;
+    int rule, before = failed;
+    for (from = 0; from < count; from++) {
+        lazydfa_input left = lazydfa_whole(length), rest;
+        left.start = offsets[from];
+        rest = left;
+        rule = token_at(from, &end);
+        status = lazydfa_token(cache, bytes(text), length, &left, &one);
+        CHECK(status.code == (rule < 0 ? LAZYDFA_NO_TOKEN : LAZYDFA_OK));
+        CHECK(rule < 0 ? status.offset == offsets[from] : one.pattern == (uint32_t)rule && one.end == offsets[end]);
+        CHECK(rule < 0 || (one.start == offsets[from] && one.reserved == 0));
+        CHECK(left.start == offsets[rule < 0 ? from : end] && left.end == length);
+        status = lazydfa_tokens(cache, bytes(text), length, &rest, all, LONGEST, &listed);
+        for (at = from, n = 0; at < count && (rule = token_at(at, &end)) >= 0; at = end, n++)
+            CHECK(n < listed && all[n].start == offsets[at] && all[n].end == offsets[end]
+                  && all[n].pattern == (uint32_t)rule);
+        CHECK(n == listed && status.code == (at < count ? LAZYDFA_NO_TOKEN : LAZYDFA_NONE));
+    }
+    if (failed > before) show();
+}
+
+static void open_any(lazydfa_cache *cache, const lazydfa_text *of, size_t n, const lazydfa_options *options) {
     lazydfa_regex regex = LAZYDFA_INIT;
-    CODE(lazydfa_regex_new(&regex, it, strlen(it), options, NULL), LAZYDFA_OK);
+    CODE(lazydfa_regex_any_of(&regex, of, n, options, NULL), LAZYDFA_OK);
     CODE(lazydfa_cache_new(cache, &regex), LAZYDFA_OK);
     CODE(lazydfa_regex_close(&regex), LAZYDFA_OK);
+}
+
+static void open(lazydfa_cache *cache, const char *it, const lazydfa_options *options) {
+    lazydfa_text whole;
+    whole.text = it;
+    whole.length = strlen(it);
+    open_any(cache, &whole, 1, options);
 }
 
 /* Random patterns on random haystacks; then with quit bytes and a DFA that gives up at once. */
@@ -176,7 +242,7 @@ static void random_pairs(int pairs) {
     int i, j;
     for (i = 0; i < pairs; i++) {
         lazydfa_options options = LAZYDFA_OPTIONS_INIT;
-        lazydfa_cache cache = LAZYDFA_INIT;
+        lazydfa_cache cache = LAZYDFA_INIT, set = LAZYDFA_INIT, rules = LAZYDFA_INIT;
         if (i % 4 == 1) options.quits = quits, options.quit_count = 2;
         if (i % 4 == 2) {
             options.skip_cache_capacity_check = 1;
@@ -186,11 +252,18 @@ static void random_pairs(int pairs) {
         options.groups = i % 8 > 3;
         make_pattern();
         open(&cache, pattern, &options);
+        open_any(&rules, texts, (size_t)alternatives, &options);
+        options.match_kind = LAZYDFA_ALL;
+        open_any(&set, texts, (size_t)alternatives, &options);
         for (j = 0; j < 8; j++) {
             make_haystack(j % 2);
             compare(&cache);
+            compare_set(&set);
+            compare_tokens(&rules);
         }
         CODE(lazydfa_cache_close(&cache), LAZYDFA_OK);
+        CODE(lazydfa_cache_close(&set), LAZYDFA_OK);
+        CODE(lazydfa_cache_close(&rules), LAZYDFA_OK);
     }
 }
 
@@ -210,6 +283,8 @@ static void not_simulated(void) {
     CHECK(match.start == 5 && match.end == 6 && match.pattern == 0);
     CODE(lazydfa_which(&cache, bytes(it), length, &input, 1, listed, 1, &found), LAZYDFA_QUIT);
     token.start = 2;
+    CODE(lazydfa_token(&cache, bytes(it), length, &token, &match), LAZYDFA_NO_TOKEN);
+    token.end = 5;
     CODE(lazydfa_token(&cache, bytes(it), length, &token, &match), LAZYDFA_QUIT);
     CODE(lazydfa_pieces_begin(&cache, LAZYDFA_UNANCHORED, 0, -1, 0), LAZYDFA_OK);
     CODE(lazydfa_pieces_read(&cache, bytes(it), length, &done), LAZYDFA_QUIT);
@@ -242,6 +317,13 @@ static void not_simulated(void) {
     input = lazydfa_whole(length);
     CODE(lazydfa_find(&cache, bytes(it), length, &input, &match), LAZYDFA_QUIT);
     CODE(lazydfa_is_match(&cache, bytes(it), length, &input), LAZYDFA_OK);
+    CODE(lazydfa_which(&cache, bytes(it), length, &input, 1, listed, 1, &found), LAZYDFA_OK);
+    CHECK(found == 1 && listed[0] == 0);
+    input.earliest = 1;
+    CODE(lazydfa_which(&cache, bytes(it), length, &input, 1, listed, 1, &found), LAZYDFA_QUIT);
+    input.earliest = 0;
+    input.end = 5;
+    CODE(lazydfa_which(&cache, bytes(it), length, &input, 1, listed, 1, &found), LAZYDFA_QUIT);
     CODE(lazydfa_cache_close(&cache), LAZYDFA_OK);
 }
 

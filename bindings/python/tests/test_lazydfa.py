@@ -76,6 +76,19 @@ def matches_by_re(regex, text):
     return found
 
 
+def tokens_by_re(rules, text):
+    """Returns the tokens of a text by `re`, each of the first rule that matches, and where no token begins, if anywhere."""
+    found, at = [], 0
+    while at < len(text):
+        matching = ((rule, it) for rule, it in ((rule, regex.match(text, at)) for rule, regex in enumerate(rules)) if it)
+        rule, it = next(matching, (0, None))
+        if it is None or it.end() == at:
+            return found, at
+        found.append((rule, at, it.end()))
+        at = it.end()
+    return found, None
+
+
 TEMPLATES = [r"<\1>", r"\g<0>-\2", r"\g<x1>!", r"\n\\\.\041", r"é\3\g<1>0", "-", r"\0\07a\12\1012"]
 
 
@@ -315,14 +328,35 @@ class Worked(unittest.TestCase):
                 pairs, beyond = pairs + 1, beyond + (not text.isascii())
         self.assertGreaterEqual((pairs, beyond), (20000, 20000))
 
+    def test_sets_and_tokens_with_word_boundaries_against_re(self):
+        rnd, pairs, tokens = random.Random(12), 0, 0
+        for _ in range(WORD_PATTERNS // 3):
+            patterns = [random_words(rnd) for _ in range(3)]
+            theirs = [re.compile(pattern) for pattern in patterns]
+            ours = lazydfa.RegexSet(patterns)
+            lexer = lazydfa.Lexer([(str(rule), pattern) for rule, pattern in enumerate(patterns)])
+            for _ in range(WORD_TEXTS):
+                text = "".join(rnd.choice(SCRIPTS) for _ in range(rnd.randrange(1, 14)))
+                said, found, at = (patterns, text), [], None
+                wanted = [rule for rule, regex in enumerate(theirs) if regex.search(text)]
+                self.assertEqual((ours.which(text), said), (wanted, said))
+                try:
+                    found.extend((int(it.name), it.start, it.end) for it in lexer.tokens(text))
+                except lazydfa.TokenError as error:
+                    at = error.offset
+                self.assertEqual(((found, at), said), (tokens_by_re(theirs, text), said))
+                pairs, tokens = pairs + 1, tokens + len(found)
+        self.assertGreaterEqual((pairs, tokens > 2000), (8000, True))
+
     def test_word_boundaries(self):
         regex = lazydfa.Regex(r"\b(\w+)=(\w*)\b")
         self.assertEqual([it.groups() for it in regex.finditer("ключ=знач, k=ü")], [("ключ", "знач"), ("k", "ü")])
         self.assertEqual(lazydfa.Regex(rb"\bx").findall("éx x".encode()), [b"x", b"x"])
         rules = lazydfa.RegexSet([r"\bfoo\b", "bar"])
         self.assertEqual(rules.which("foo bar"), [0, 1])
-        with self.assertRaisesRegex(lazydfa.SearchError, "word boundary"):
-            rules.which("foo é")
+        self.assertEqual(rules.which("foo é"), [0])
+        lexer = lazydfa.Lexer([("and", r"и\b"), ("name", r"\w+"), ("space", " +")])
+        self.assertEqual([it.name for it in lexer.tokens("и имя и")], ["and", "space", "name", "space", "and"])
 
     def test_flags(self):
         self.assertTrue(lazydfa.Regex("É", case_insensitive=True).is_match("é"))

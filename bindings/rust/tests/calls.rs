@@ -158,6 +158,28 @@ fn sets() -> Tested {
     Ok(())
 }
 
+/// Sets of patterns and tokens have word boundaries in text of any script.
+#[test]
+fn words_in_sets_and_tokens() -> Tested {
+    let texts = [r"и\b", r"\bда", r"\w+", r"\W"];
+    let config = dfa::Config::new().match_kind(MatchKind::All);
+    let regex = Regex::builder().dfa(config).build_many(&texts)?;
+    let mut cache = regex.create_cache();
+    let members =
+        [("и", &[0, 2][..]), ("сидя и да", &[0, 1, 2, 3]), ("字", &[2]), ("—", &[3]), ("a", &[2]), ("", &[])];
+    for (text, members) in members {
+        let mut set = PatternSet::new(regex.pattern_len());
+        regex.forward().try_which_overlapping_matches(&mut cache, &Input::new(text), &mut set)?;
+        assert_eq!(set.iter().map(PatternID::as_usize).collect::<Vec<_>>(), members, "{text}");
+    }
+    let regex = Regex::builder().build_many(&texts)?;
+    let mut cache = regex.create_cache();
+    let tokens: Result<Vec<_>, _> = regex.tokens(&mut cache, "и имя, дам").collect();
+    let tokens: Vec<_> = tokens?.iter().map(|it| (it.pattern().as_usize(), it.range())).collect();
+    assert_eq!(tokens, [(0, 0..2), (3, 2..3), (2, 3..9), (3, 9..10), (3, 10..11), (1, 11..15), (2, 15..17)]);
+    Ok(())
+}
+
 /// What an overlapping search found before an error is kept, even if the room for it had to grow.
 #[test]
 fn found_before_an_error() -> Tested {

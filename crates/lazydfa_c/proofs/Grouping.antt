@@ -1,7 +1,7 @@
 -- The groups of a match, as captures hold them, are written as C reads them; and names of groups.
 use Rattle.std.proofs.Common.{ℕ, ◌≡◌, ◌+◌, ◌<◌, ◌≤◌, List, [], ◌∷◌, ◌++◌, ap, arith, length, map, refl, subst, sym}
 use Rattle.std.proofs.Common.{◌∙◌}
-use Rattle.std.specs.Prelude.{Option, None, Some, IfSome, Ok, Err, Result, if◌then◌else◌, false, nat_le}
+use Rattle.std.specs.Prelude.{Option, IfSome, Ok, Err, Result, if◌then◌else◌, false, nat_le}
 use Rattle.std.specs.Prelude.{slice_index_or, true}
 use Rattle.std.specs.List.{range_with_len}
 use Rattle.std.proofs.Math.ListN.{set}

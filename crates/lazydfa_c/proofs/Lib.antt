@@ -9,6 +9,7 @@ mod Slots
 mod States
 mod Streams
 mod Values
+mod Joining
 mod Meant
 mod Written
 mod Opening

@@ -10,10 +10,11 @@ use Rattle.automata_hybrid.specs.Known.Walks.{IsWalkRun}
 use Rattle.automata_hybrid.specs.Walks.State.{States, Walk, fresh_walk}
 use Rattle.regex_automata.specs.Promises.{CacheView, HalfMatch, Input, Machine, known_of}
 use Rattle.lazydfa_c.specs.Caches.{written_over}
-use Rattle.lazydfa_c.specs.Calls.{OfInput, TakesToken, regex_of}
+use Rattle.lazydfa_c.specs.Calls.{OfInput, regex_of}
 use Rattle.lazydfa_c.specs.Codes.{number_of}
 use Rattle.lazydfa_c.specs.Requests.{found_half, input_of}
 use Rattle.lazydfa_c.specs.Statuses.{plain, search_status}
+use Rattle.lazydfa_c.specs.Tokens.{TakesTokenOf}
 use Rattle.lazydfa_c.specs.declared.code.Code.TheVariants as code
 use Rattle.lazydfa_c.specs.declared.input.Found.{Found}
 use Rattle.lazydfa_c.specs.declared.input.FoundHalf.{FoundHalf}
@@ -62,7 +63,7 @@ pub record InTurn {A : Type 0} (Call : Found → A → A → Searcher → Search
 -- `lazydfa_token` on the remaining input: if that is not a valid input, it is unchanged
 abbrev pub Takes : List ℕ → Found → (old new : Request) → (s t : Searcher) → Status → Type 0
 Takes haystack found old new s t status =
-    OfInput (TakesToken found old new) (input_of haystack old) s t status
+    OfInput (TakesTokenOf found old new) (input_of haystack old) s t status
     × (input_of haystack old ≡ None → new ≡ old)
 
 -- the result of a call of an overlapping search, without the match that it found

@@ -1,12 +1,10 @@
--- Contracts of the calls that list patterns, reset a cache, or report its memory usage.
-use Rattle.std.specs.Prelude.{ℕ, ◌≡◌, ◌⊎◌, ◌+◌, ◌-◌, ◌^◌, ◌≤◌, List, [], ◌∷◌, false, length, min, replicate}
-use Rattle.automata_base.specs.Haystacks.PatternSet.{members}
+-- Contracts of the calls that reset a cache, or report its memory usage.
+use Rattle.std.specs.Prelude.{◌≡◌, ◌⊎◌, ◌+◌, ◌-◌, ◌^◌, ◌≤◌, List, [], ◌∷◌, length, min}
 use Rattle.automata_hybrid.specs.Cache.Caches.{dfa_of}
 use Rattle.automata_hybrid.specs.Known.Events.{usage}
 use Rattle.automata_hybrid.specs.Known.Stores.{known_of}
-use Rattle.regex_automata.specs.Promises.{Input}
 use Rattle.regex_automata.specs.Regexes.Caches.{AreFresh}
-use Rattle.lazydfa_c.specs.Calls.{JoinsPatterns, regex_of}
+use Rattle.lazydfa_c.specs.Calls.{regex_of}
 use Rattle.lazydfa_c.specs.Statuses.{plain}
 use Rattle.lazydfa_c.specs.declared.code.Code.TheVariants as code
 use Rattle.lazydfa_c.specs.declared.object.Searcher.{Searcher}
@@ -29,18 +27,6 @@ abbrev pub written_over : {A : Type 0} → List A → (old : List A) → List A
 written_over [] old = old
 written_over (x ∷ xs) [] = []
 written_over (x ∷ xs) (o ∷ old) = x ∷ written_over xs old
-
--- `lazydfa_which`: the patterns below a number that match are written and counted
-pub data Lists (below : ℕ) (old new : List ℕ) (count : ℕ) (input : Input) (s t : Searcher) (status : Status) :
-    Type 0 where
-  -- the patterns that match are added to an empty set; its members are written and counted, also after an error
-  AreWritten :
-      JoinsPatterns (replicate below false) input s t status → new ≡ written_over (members t.patterns) old
-      → count ≡ length (members t.patterns) → Lists below old new count input s t status
-  -- the allocation of the set fails: nothing changes, and the count is 0
-  NoMemory :
-      status ≡ plain code.Memory → KeepsCaches s t → new ≡ old → count ≡ 0
-      → Lists below old new count input s t status
 
 -- `lazydfa_cache_reset`: the cache is a fresh one of its regex, or is unchanged if an allocation fails
 pub record Resets (s t : Searcher) (status : Status) : Type 0 where

@@ -14,11 +14,13 @@ pub mod Limits
 pub mod Pieces
 pub mod Programs
 pub mod Requests
+pub mod Sets
 pub mod Statuses
 pub mod Stops
 pub mod Streams
 pub mod Tables
 pub mod Texts
 pub mod Facts
+pub mod Tokens
 pub mod Walks
 pub mod Words

@@ -35,6 +35,7 @@ mod tokens;
 mod usage;
 mod walk;
 mod walks;
+mod word_tokens;
 mod words;
 
 pub use handle::Handle;

@@ -4,8 +4,9 @@ ghost use Rattle.std.specs.Prelude.{IfErr, OnErr, OnOk};
 ghost use Rattle.automata_base.specs.Haystacks.PatternSet.{members};
 ghost use Rattle.lazydfa_c.specs.Batches.{FindsAllEnds, FindsAllStarts, AreAll, IsWalkStep, NoneListed};
 ghost use Rattle.lazydfa_c.specs.Calls.{JoinsPatterns, KeepsUnlessCache, KeepsUnlessOpen, OfHandle, OfInput, OfObject};
-ghost use Rattle.lazydfa_c.specs.Caches.{Lists, written_over};
+ghost use Rattle.lazydfa_c.specs.Caches.{written_over};
 ghost use Rattle.lazydfa_c.specs.Requests.{found_half, input_of};
+ghost use Rattle.lazydfa_c.specs.Sets.{JoinsFor, Lists};
 ghost use Rattle.lazydfa_c.specs.Statuses.{plain};
 ghost use Rattle.lazydfa_c.specs.declared.code.Code.TheVariants as code;
 ghost use Rattle.regex_automata.specs.Promises.{IsCacheOf, IsWalkOf};
@@ -16,6 +17,7 @@ use crate::handle::Handle;
 use crate::input::{FoundHalf, Request};
 use crate::object::{Object, Searcher};
 use crate::status::Status;
+use crate::words::has_ascii;
 use regex_automata::hybrid::SearchError;
 use regex_automata::hybrid::dfa::{Cache, DFA, OverlappingState};
 use regex_automata::{Direction, HalfMatch, Input, PatternSet};
@@ -161,6 +163,24 @@ impl Searcher {
         }
     }
 
+    /// Adds the patterns that match to the searcher's set, which is empty. The programs find them where the DFA cannot.
+    fn join_for(&mut self, input: &Input<'_>) -> Status
+        requires { self.old.patterns ≡ replicate (length self.old.patterns) false }
+        ensures { JoinsFor self.old.patterns input.now self.old self.new result }
+    {
+        if !self.can_list(input) {
+            return self.join(input);
+        }
+        if !has_ascii(input) {
+            return self.join_by_programs(input);
+        }
+        let status = self.join(input);
+        if status.is_failure() {
+            return self.join_by_programs(input);
+        }
+        status
+    }
+
     /// Writes the patterns below a number that match, as many as there is room for, and counts them all.
     fn which(
         &mut self,
@@ -174,7 +194,7 @@ impl Searcher {
     {
         match self.empty_set(alloc, below) {
             Ok(()) => {
-                let status = self.join(input);
+                let status = self.join_for(input);
                 *count = write_members(&self.patterns, out);
                 status
             }

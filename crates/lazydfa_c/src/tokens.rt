@@ -5,6 +5,7 @@ ghost use Rattle.lazydfa_c.specs.Batches.{InTurn, Takes};
 ghost use Rattle.lazydfa_c.specs.Calls.{KeepsUnlessCache, KeepsUnlessOpen, OfHandle, OfObject, TakesToken};
 ghost use Rattle.lazydfa_c.specs.Calls.{WritesIfDone};
 ghost use Rattle.lazydfa_c.specs.Requests.{found_from};
+ghost use Rattle.lazydfa_c.specs.Tokens.{TakesTokenOf};
 
 use crate::code::Code;
 use crate::handle::Handle;
@@ -30,9 +31,9 @@ impl Found {
 }
 
 impl Searcher {
-    /// Writes the token at the start of an input's span, and moves the start of the remaining span to the token's end.
-    /// The status is `Code::Nothing` if the span is empty.
-    fn token(&mut self, input: Input<'_>, left: &mut Request, found: &mut Found) -> Status
+    /// Writes the token at the start of an input's span by the DFA, and moves the start of the remaining span to the
+    /// token's end. The status is `Code::Nothing` if the span is empty.
+    fn token_by_dfa(&mut self, input: Input<'_>, left: &mut Request, found: &mut Found) -> Status
         ensures found { TakesToken found.new left.old left.new input.entry self.old self.new result }
         ensures written { WritesIfDone found.old found.new result }
     {
@@ -48,6 +49,28 @@ impl Searcher {
         }
     }
 
+    /// Writes the token at the start of an input's span, and moves the start of the remaining span to the token's end.
+    /// The status is `Code::Nothing` if the span is empty. The programs find the token where the DFA cannot.
+    fn token(&mut self, input: &Input<'_>, left: &mut Request, found: &mut Found) -> Status
+        ensures found { TakesTokenOf found.new left.old left.new input.now self.old self.new result }
+        ensures written { WritesIfDone found.old found.new result }
+    {
+        if !self.can_lex(input) {
+            return self.token_by_dfa(input.copied(), left, found);
+        }
+        left.mark(input);
+        if !left.is_ascii() {
+            return self.token_by_programs(input, left, found);
+        }
+        let marked = *left;
+        let status = self.token_by_dfa(input.copied(), left, found);
+        if status.is_failure() {
+            *left = marked;
+            return self.token_by_programs(input, left, found);
+        }
+        status
+    }
+
     /// Writes the token at the start of the remaining span. The status is `Code::Argument` if the remaining span does
     /// not lie in the haystack.
     fn next_token(&mut self, haystack: &[u8], left: &mut Request, found: &mut Found) -> Status
@@ -55,7 +78,7 @@ impl Searcher {
         ensures written { WritesIfDone found.old found.new result }
     {
         match left.input(haystack) {
-            Some(input) => self.token(input, left, found),
+            Some(input) => self.token(&input, left, found),
             None => Status::from(Code::Argument),
         }
     }

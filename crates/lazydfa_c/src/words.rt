@@ -1,16 +1,19 @@
 //! Searches for patterns with a Unicode word boundary. The lazy DFAs decide one only in an ASCII haystack; in any other,
 //! and where a search of the DFAs fails, the programs of the regex find the matches.
-ghost use Rattle.std.specs.Prelude.{◌≡◌, ◌↔◌, ◌≤◌, IsAscii, IsTrue, List, MatchBool, length, option_map};
+ghost use Rattle.std.specs.Prelude.{◌≡◌, ◌↔◌, ◌≤◌, IsAscii, IsTrue, List, MatchBool, false, length, option_map};
+ghost use Rattle.std.specs.Prelude.{replicate};
 ghost use Rattle.std.specs.Str.{IsNotAscii};
 ghost use Rattle.automata_base.specs.Answers.Spans.{IsNextItem};
 ghost use Rattle.regex_hir.specs.Re.{Re};
 ghost use Rattle.meaning.specs.Patterns.{find_any, numbered_match};
 ghost use Rattle.meta.specs.Caches.{AreRoomsOf};
 ghost use Rattle.meta.specs.Groups.{FindAllGroups};
+ghost use Rattle.meta.specs.Sets.{is_found_from, joined_with};
 ghost use Rattle.regex_automata.specs.Promises.{match_kind_of};
 ghost use Rattle.lazydfa_c.specs.Caches.{KeepsCaches};
 ghost use Rattle.lazydfa_c.specs.Calls.{WritesIfDone, regex_of};
 ghost use Rattle.lazydfa_c.specs.Programs.{HasRoomForGroups};
+ghost use Rattle.lazydfa_c.specs.Sets.{SimulatesSet, can_list};
 ghost use Rattle.lazydfa_c.specs.Words.{ByPrograms, IsMarked, IsMeantMatch, SimulatesEnd, SimulatesMatch};
 ghost use Rattle.lazydfa_c.specs.Words.{SimulatesNext, SimulatesTest, ascii_mark, can_simulate, can_test};
 ghost use Rattle.lazydfa_c.specs.Words.{is_first_kind, with_mark};
@@ -21,13 +24,13 @@ use crate::iterate::Iteration;
 use crate::object::{GroupMemory, Searcher};
 use crate::status::Status;
 use meta::Programs;
-use regex_automata::{Anchored, HalfMatch, Input, Match, MatchKind};
+use regex_automata::{Anchored, HalfMatch, Input, Match, MatchKind, PatternSet};
 
 /// The mark of an iteration whose haystack is ASCII.
-const ASCII: u32 = 1;
+pub const ASCII: u32 = 1;
 
 /// The mark of an iteration whose haystack is not ASCII.
-const NOT_ASCII: u32 = 2;
+pub const NOT_ASCII: u32 = 2;
 
 /// Whether the haystack of an input is ASCII. It reads all of the haystack that is.
 pub fn has_ascii(input: &Input<'_>) -> bool
@@ -48,6 +51,17 @@ impl GroupMemory {
     {
         programs.find_at(&mut self.simulations, hay, start)
     }
+
+    /// Adds the patterns to a set that match from an offset on, by the programs.
+    fn join_which(&mut self, programs: &Programs, hay: &[u8], start: usize, set: &mut PatternSet)
+        requires { AreRoomsOf self.old.simulations.items programs.now.list.items }
+        ensures meant { (res : List Re) → FindAllGroups programs.now.list.items res
+            → set.new ≡ joined_with (is_found_from programs.now.utf8 hay.now start) res set.old }
+        ensures rooms { AreRoomsOf self.new.simulations.items programs.now.list.items }
+        ensures captures { self.new.captures ≡ self.old.captures }
+    {
+        programs.which(&mut self.simulations, hay, start, set);
+    }
 }
 
 /// Returns the first match of an input that is the rest of a haystack, by the programs.
@@ -59,6 +73,21 @@ fn first_match(programs: &Programs, memory: &mut GroupMemory, input: &Input<'_>)
     ensures room { HasRoomForGroups memory.new programs.now }
 {
     memory.find_first(programs, input.haystack(), input.start())
+}
+
+/// Adds the patterns to a set that match in an input that is the rest of a haystack, by the programs.
+fn join_which(
+    programs: &Programs,
+    memory: &mut GroupMemory,
+    input: &Input<'_>,
+    set: &mut PatternSet,
+)
+    requires { HasRoomForGroups memory.old programs.now }
+    ensures meant { (res : List Re) → FindAllGroups programs.now.list.items res
+        → set.new ≡ joined_with (is_found_from programs.now.utf8 input.now.haystack input.now.start) res set.old }
+    ensures room { HasRoomForGroups memory.new programs.now }
+{
+    memory.join_which(programs, input.haystack(), input.start(), set);
 }
 
 impl Searcher {
@@ -79,8 +108,15 @@ impl Searcher {
         self.can_test(input) && !input.get_earliest() && self.is_leftmost_first()
     }
 
+    /// Whether the programs can list the patterns that match in the input.
+    pub fn can_list(&self, input: &Input<'_>) -> bool
+        ensures { result ≡ can_list self.now input.now }
+    {
+        self.can_test(input) && !input.get_earliest() && !self.is_leftmost_first()
+    }
+
     /// Whether the match kind is `MatchKind::LeftmostFirst`.
-    fn is_leftmost_first(&self) -> bool
+    pub fn is_leftmost_first(&self) -> bool
         ensures { result ≡ is_first_kind (match_kind_of (regex_of self.now).forward.config) }
     {
         let shared = &self.shared;
@@ -170,6 +206,23 @@ impl Searcher {
             Some(_) => Status::from(Code::Done),
             None => Status::from(Code::Nothing),
         }
+    }
+
+    /// Makes the searcher's set that of the patterns that match in an input that is the rest of a haystack, by the
+    /// programs. Its capacity stays.
+    pub fn join_by_programs(&mut self, input: &Input<'_>) -> Status
+        ensures { SimulatesSet (replicate (length self.old.patterns) false) input.now self.old self.new result }
+    {
+        self.patterns.clear();
+        let done = Status::from(Code::Done);
+        let Some(programs) = &self.shared.programs else {
+            return done;
+        };
+        let Some(memory) = &mut self.groups else {
+            return done;
+        };
+        join_which(programs, memory, input, &mut self.patterns);
+        done
     }
 
     /// Searches for the next match of an iteration by the programs, and writes it. If there is no match, the iteration

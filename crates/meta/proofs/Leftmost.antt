@@ -3,20 +3,21 @@ use Rattle.std.proofs.Common.{ℕ, zero, suc, ◌≡◌, ◌+◌, ◌<◌, ◌�
 use Rattle.std.proofs.Common.{Option, Some, None, ap, ap₂, arith, length, option_map, refl, slice_get, subst, sym, take}
 use Rattle.std.proofs.Common.{⊎_elim, add-one, get_or, is_some, true≢false}
 use Rattle.std.specs.Option.{option_or}
-use Rattle.std.specs.Prelude.{IfSome, if◌then◌else◌}
+use Rattle.std.specs.Prelude.{IfSome}
 use Rattle.std.proofs.lemmas.Bool.{cases_Bool, cond-false, cond-true}
 use Rattle.std.proofs.lemmas.List.{get_or_default, length-take-le}
 use Rattle.std.proofs.lemmas.List.Elements.{All-append, All-cons, All-head, All-nil, All-tail, All-weaker}
 use Rattle.std.proofs.lemmas.Option.{none-some, same_Some}
 use Rattle.std.proofs.Math.Seq.{take-suc}
 use Rattle.regex_hir.specs.Find as kit
-use Rattle.regex_hir.specs.Re.{Re, Rest, Trace, accept, attempt}
+use Rattle.regex_hir.specs.Re.{Re, Trace, accept, attempt}
 use Rattle.regex_hir.specs.Text.{is_boundary}
 use Rattle.regex_hir.proofs.FindLemmas.{first_between_none, first_between_of_IsFirst}
 use Rattle.regex_syntax.specs.Captures.{outcome}
 use Rattle.automata_base.specs.Haystacks.Matches.{Match}
 use Rattle.meaning.specs.Patterns.{any_of, find_any, first_at, numbered_match}
 use Rattle.meta.specs.Groups.{FindAllGroups, FindsGroups}
+use Rattle.meta.specs.Sets.{attempt_at}
 use Rattle.meta.specs.Simulations.{BeginsNowhere, IsSimulatedSpan, MayBeginAt, run_at}
 use Rattle.meta.specs.declared.program.Program.{Program}
 use Rattle.meta.proofs.Simulating.{no_match, seen_same}
@@ -227,25 +228,20 @@ module _ (hay : List ℕ) (bytes : All (λ b. b < 256) hay) (i : ℕ) where
         cond-false (is_some (attempt hay re accept i)) _ _ (ap is_some here) ∙ ap suc later.3,
       )
 
--- where a search of the texts tries to match
-abbrev tries : (utf8 : Bool) → List Re → List ℕ → Rest
-tries true res hay i = if is_boundary hay i then attempt hay (any_of res) accept i else None
-tries false res hay i = attempt hay (any_of res) accept i
-
 find_tries :
     (utf8 : Bool) (res : List Re) (hay : List ℕ) (start : ℕ)
-    → find_any utf8 res hay start ≡ kit.first_between (tries utf8 res hay) start (length hay)
+    → find_any utf8 res hay start ≡ kit.first_between (attempt_at utf8 res hay) start (length hay)
 unfolding kit.find kit.find_str
 find_tries true res hay start = refl
 find_tries false res hay start = refl
 
-tried : (utf8 : Bool) (res : List Re) (hay : List ℕ) (i : ℕ) → MayBeginAt utf8 hay i
-    → tries utf8 res hay i ≡ attempt hay (any_of res) accept i
+pub tried : (utf8 : Bool) (res : List Re) (hay : List ℕ) (i : ℕ) → MayBeginAt utf8 hay i
+    → attempt_at utf8 res hay i ≡ attempt hay (any_of res) accept i
 tried true res hay i may = cond-true (is_boundary hay i) _ _ (may refl)
 tried false res hay i may = refl
 
-tried_none : (utf8 : Bool) (res : List Re) (hay : List ℕ) (i : ℕ)
-    → (MayBeginAt utf8 hay i → attempt hay (any_of res) accept i ≡ None) → tries utf8 res hay i ≡ None
+pub tried_none : (utf8 : Bool) (res : List Re) (hay : List ℕ) (i : ℕ)
+    → (MayBeginAt utf8 hay i → attempt hay (any_of res) accept i ≡ None) → attempt_at utf8 res hay i ≡ None
 tried_none true res hay i h =
     ⊎_elim (λ yes. cond-true (is_boundary hay i) _ _ yes ∙ h (λ _. yes)) (λ no. cond-false (is_boundary hay i) _ _ no)
     (cases_Bool (is_boundary hay i))
@@ -258,7 +254,7 @@ pub leftmost_is :
     → found ≡ option_map (numbered_match res hay) (find_any utf8 res hay start)
 leftmost_is utf8 ps res hay start None bytes all h =
     sym (ap (option_map (numbered_match res hay)) (find_tries utf8 res hay start
-    ∙ first_between_none (tries utf8 res hay) start (length hay) (λ i low high. tried_none utf8 res hay i
+    ∙ first_between_none (attempt_at utf8 res hay) start (length hay) (λ i low high. tried_none utf8 res hay i
     (λ may. none_any hay bytes i ps res all
     (All-weaker (λ (q : Program). BeginsNowhere utf8 q hay start (length hay + 1))
     (λ (q : Program). run_at q hay i ≡ None) (λ q none. none i low (omega (arith, high)) may) ps h.nowhere)))))
@@ -268,7 +264,7 @@ leftmost_is utf8 ps res hay start (Some m) bytes all h =
     let x : kit.Match = record { start = m.start; trace = w.0 } in
     let is : find_any utf8 res hay start ≡ Some x =
     find_tries utf8 res hay start
-    ∙ first_between_of_IsFirst (tries utf8 res hay) start (length hay) x (record {
+    ∙ first_between_of_IsFirst (attempt_at utf8 res hay) start (length hay) x (record {
       from = s.after;
       to = s.inside;
       here = tried utf8 res hay m.start s.boundary ∙ w.1;

@@ -1,9 +1,11 @@
+mod Anchoring
 mod Answering
 mod Compiled
 mod Following
 mod Found
 mod Held
 mod Items
+mod Joining
 mod Leftmost
 mod Nexts
 mod Refusing

@@ -5,6 +5,8 @@ pub mod Iteration
 pub mod Laws
 pub mod Names
 pub mod Programs
+pub mod RegexSets
 pub mod Regexes
 pub mod Simulations
+pub mod Sets
 pub mod Slots

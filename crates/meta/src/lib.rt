@@ -20,9 +20,11 @@ mod program;
 mod programs;
 mod regexes;
 mod searcher;
+mod set;
 mod simulation;
 #[cfg(test)]
 mod tests;
+mod which;
 
 pub use cache::Cache;
 pub use captures::Captures;
@@ -30,4 +32,5 @@ pub use matches::Matches;
 pub use program::Programs;
 pub use regexes::Regex;
 pub use searcher::Searcher;
+pub use set::{RegexSet, SetCache};
 pub use simulation::Simulation;

@@ -72,7 +72,7 @@ fn is_named(group: &Option<String>, name: &str) -> bool
 }
 
 /// Returns the match of the text with this number, from where it begins to where it ends.
-fn match_of(number: usize, span: (usize, usize)) -> Match
+pub(crate) fn match_of(number: usize, span: (usize, usize)) -> Match
     requires number { number < 2147483647 }
     requires ordered { span.0 ≤ span.1 }
     ensures { result ≡ record { pattern = number; start = span.0; end = span.1 } }

@@ -60,14 +60,14 @@ impl Drop for Regex {
 }
 
 /// Returns the options for ASCII text, or for any.
-fn with_ascii(options: &Options, ascii: bool) -> Options
+pub(crate) fn with_ascii(options: &Options, ascii: bool) -> Options
     ensures { result ≡ with_ascii ascii options.now }
 {
     Options { ascii, ..*options }
 }
 
 /// Whether a fault is only that the lazy DFAs do not support a look.
-fn is_look(fault: &Fault) -> bool
+pub(crate) fn is_look(fault: &Fault) -> bool
     ensures { result ≡ false → (fault.now ≢ UnicodeWord) × (fault.now ≢ Malformed) }
 {
     matches!(fault, Fault::UnicodeWord | Fault::Malformed)

@@ -40,6 +40,26 @@ const WORDS: [(&str, &str, &str); 7] = [
     (r"\b", "abc", "0..0 3..3 "),
 ];
 
+/// The texts of a set.
+const SET: [&str; 5] = [r"\bfoo\b", r"\bслово\b", r"\Bо\B", "字", r"\b"];
+
+/// A haystack, and which texts of the set match in it.
+const MEMBERS: [(&str, &str); 5] = [
+    ("слово", "1 2 4 "),
+    ("foo 字", "0 3 4 "),
+    ("foo", "0 4 "),
+    ("…", ""),
+    ("", ""),
+];
+
+/// Offsets of a haystack, and the match of texts there.
+const MATCHES_THERE: [(usize, &str); 4] = [
+    (0, "1: 0..10"),
+    (1, ""),
+    (6, "1: 6..10"),
+    (10, "2: 10..10"),
+];
+
 /// Shows the pattern of the first match from an offset on, and the spans of its groups.
 fn shown(alloc: Global, texts: &[&str], hay: &[u8], start: usize) -> Result<String, Fail> {
     let regex = Regex::any_of(alloc, texts, &Options::default())?;
@@ -195,5 +215,52 @@ fn matches_have_groups_in_turn(rt: HostRuntime) -> Result<(), Fail> {
     let hay = "é=1 b= c=2".as_bytes();
     assert_eq!(rt; count_in_turn(&regex, &mut cache, &mut captures, hay, 2), 2);
     assert!(rt; captures.get_match().is_none());
+    Ok(())
+}
+
+/// Shows which texts of the set match in a haystack, and whether one does.
+fn members(alloc: Global, hay: &[u8]) -> Result<(String, bool), Fail> {
+    let set = RegexSet::new(alloc, &SET, &Options::default())?;
+    let mut cache = set.create_cache(alloc)?;
+    let mut text = String::new(alloc);
+    let found = set.which(alloc, &mut cache, hay)?;
+    for pattern in found.iter() {
+        write!(text, "{} ", pattern.as_usize())?;
+    }
+    Ok((text, set.is_match(&mut cache, hay)))
+}
+
+#[test]
+fn sets_have_matching_texts_in_every_haystack(rt: HostRuntime) -> Result<(), Fail> {
+    for (hay, expected) in MEMBERS {
+        let (found, is_match) = members(rt.alloc(), hay.as_bytes())?;
+        assert_eq!(rt; found.as_str(), expected);
+        assert_eq!(rt; is_match, !expected.is_empty());
+    }
+    Ok(())
+}
+
+/// Shows the match of texts at an offset.
+fn match_there(alloc: Global, hay: &[u8], at: usize) -> Result<String, Fail> {
+    let texts = [r"\bв\w*", r"\w+", ""];
+    let programs = Programs::new(alloc, &texts, &Options::default())?;
+    let mut simulations = programs.create_simulations(alloc)?;
+    let mut text = String::new(alloc);
+    if at > hay.len() {
+        return Ok(text);
+    }
+    if let Some(found) = programs.match_at(&mut simulations, hay, at) {
+        let (start, end) = (found.start(), found.end());
+        write!(text, "{}: {start}..{end}", found.pattern().as_usize())?;
+    }
+    Ok(text)
+}
+
+#[test]
+fn matches_at_an_offset_are_of_the_first_text(rt: HostRuntime) -> Result<(), Fail> {
+    for (at, expected) in MATCHES_THERE {
+        let found = match_there(rt.alloc(), "слово!".as_bytes(), at)?;
+        assert_eq!(rt; found.as_str(), expected);
+    }
     Ok(())
 }

@@ -1,5 +1,4 @@
 use Rattle.std.proofs.Common.{None, Option, Some, rules, subst, ℕ}
-use Rattle.std.specs.Prelude.{Ok}
 use Rattle.automata_base.specs.Answers.Spans.{IsNextItem}
 use Rattle.lazydfa_c.specs.Words.{ByPrograms, IsMeantMatch}
 use Rattle.lazydfa_c.proofs.object.Searcher.next_by_programs.Goals as goal
