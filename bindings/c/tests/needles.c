@@ -17,6 +17,8 @@ static const char *const all[][2] = {
     { "aba", "b" },              { "http", "https" },         { "Holmes", "Sherlock" },    { "\\nab?", NULL },
     { "ab|ba|http", NULL },      { "(?i)holmes", NULL },      { "abc|cab*", "Holmes|://" }, { "(?i)ab", NULL },
     { "(?:aab|bab|http|AKIA|Sherlock Holmes|:/|\n[ab])c*", NULL },
+    { "[a-z]+ock", NULL },       { "[A-Za-z]+ Holmes", NULL }, { ".*http", NULL },          { "(?s:.)*aab.?", NULL },
+    { "\\w*(aab)c*", NULL },     { "[^\\s]+://a?", NULL },    { "[a-c]*?aba", NULL },      { "(\\pL+Sherlock)(.*)", NULL },
     { "^ab", NULL },             { "[a-z]+b", NULL },         { "(?:ab)*", NULL },
 };
 
