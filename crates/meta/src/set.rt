@@ -188,11 +188,11 @@ impl RegexSet {
         ensures of { IsSetCacheOf cache.new self.now }
     {
         if !self.suits_dfa(hay) {
-            return self.programs.is_match(&mut cache.simulations, hay, 0);
+            return self.programs.is_match_at(&mut cache.simulations, hay, 0);
         }
         match self.set.is_match(&mut cache.dfa, hay) {
             Ok(truth) => truth,
-            Err(_) => self.programs.is_match(&mut cache.simulations, hay, 0),
+            Err(_) => self.programs.is_match_at(&mut cache.simulations, hay, 0),
         }
     }
 }
