@@ -128,7 +128,9 @@ fn pattern_of(nfa: NFA, case_insensitive: bool, capacity: usize) -> Result<Patte
 {
     let how = bytewise(case_insensitive);
     let config = settings(MatchKind::LeftmostFirst, capacity);
-    Ok(Pattern::from_nfa_with(nfa, &how, config)?)
+    let mut pattern = Pattern::from_nfa_with(nfa, &how, config)?;
+    pattern.try_first_bytes();
+    Ok(pattern)
 }
 
 /// Builds the searcher for the matches of the patterns of an NFA.
